@@ -1,0 +1,5 @@
+pub mod Dividing
+pub mod Quotient
+pub mod Lines
+pub mod Tables
+pub mod Radios

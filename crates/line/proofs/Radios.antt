@@ -1,0 +1,134 @@
+-- What the radio line's table and register give. Assumes nothing.
+use mathlib.Core.Path.{_≡_, refl, ap, sym, _∙_, subst}
+use mathlib.Core.Bool.{Bool, true, cond}
+use mathlib.Core.List.{List, [], _∷_, _++_, map}
+use mathlib.Core.Logic.{_≢_}
+use Prim.Native.Nat.{ℕ, zero, suc, _+_, _*_, _-_, _/_, _%_, _^_, _<_, _≤_}
+use native.Mathlib.Omega.{arith}
+use native.Mathlib.Numerals.{add-one}
+use lib.Bits.{bitXor, bitAnd}
+use lib.Dec.{ltb, eqb}
+use lib.ListN.{length, drop, getD, set, replicate}
+use Rattle.std.specs.Options.{mapped}
+use Rattle.std.specs.declared.option.Option.{Option}
+use Rattle.std.specs.declared.option.Option.the-variants.{None, Some}
+use Rattle.std.proofs.shelf.Bits.{mod-below, xor-lt}
+use Rattle.std.proofs.shelf.Lists.{drop-more, drop-all, getD-map, getD-default, length-map, getD-replicate, getD-set-same, getD-set-other}
+use Rattle.std.proofs.shelf.Tests.{cond-both, eqb-true, eqb-false, ltb-true, eq-eqb, false≢true}
+use Rattle.line.specs.declared.six_bit.SixBit.{SixBit}
+use Rattle.line.specs.Values.{numberOf, numbers}
+use Rattle.line.specs.Digits.{digits, bitsOf}
+use Rattle.line.specs.Code.{Reads}
+use Rattle.line.specs.Radio.{radioSymbols, radioSymbol, movedUp, registerAfter, registerOver, radio, valueBelow, agrees, ReadsBelow}
+use Rattle.line.proofs.Tables.{at}
+use Rattle.line.proofs.Lines.{number-at}
+use Rattle.line.proofs.Dividing.{digits-step, bit-at}
+
+-- the place of the first x
+place : ℕ → List ℕ → ℕ
+place x [] = 0
+place x (y ∷ ys) = cond (eqb x y) 0 (suc (place x ys))
+
+is-byte : ℕ → ℕ → Bool
+is-byte k x = ltb x 256
+
+stands-first : ℕ → ℕ → Bool
+stands-first k x = eqb (place x radioSymbols) k
+
+pub symbol-byte : (v : ℕ) → v < 64 → radioSymbol v < 256
+unfolding radioSymbol radioSymbols is-byte
+symbol-byte v h = ltb-true (getD radioSymbols v 0) 256 (at is-byte radioSymbols refl v h)
+
+-- each symbol stands at its own place and at no earlier one: one test over the whole table
+symbol-place : (v : ℕ) → v < 64 → place (radioSymbol v) radioSymbols ≡ v
+unfolding radioSymbol radioSymbols stands-first place
+symbol-place v h = eqb-true (place (getD radioSymbols v 0) radioSymbols) v (at stands-first radioSymbols refl v h)
+
+pub symbol-distinct : (v w : ℕ) → v < 64 → w < 64 → radioSymbol v ≡ radioSymbol w → v ≡ w
+symbol-distinct v w hv hw e = sym (symbol-place v hv) ∙ ap (λ x. place x radioSymbols) e ∙ symbol-place w hw
+
+-- what the search below n finds
+Found : ℕ → ℕ → Option ℕ → Type 0
+Found n b None = (v : ℕ) → v < n → radioSymbol v ≡ b → ⊥
+Found n b (Some v) = (v < n) × (radioSymbol v ≡ b)
+
+found-more : (n b : ℕ) → (radioSymbol n ≡ b → ⊥) → (o : Option ℕ) → Found n b o → Found (suc n) b o
+unfolding Found
+found-more n b ne None f = λ v h e. grind (arith, f v)
+found-more n b ne (Some v) f = (omega (arith, f .0), f .1)
+
+found : (n b : ℕ) → Found n b (valueBelow n b)
+unfolding valueBelow Found
+found zero b = λ v h e. omega arith
+found (suc n) b =
+    cond-both (eqb (radioSymbol n) b) (Some n) (valueBelow n b) (Found (suc n) b)
+    (λ e. (omega arith, eqb-true (radioSymbol n) b e))
+    (λ e. found-more n b (eqb-false (radioSymbol n) b e) (valueBelow n b) (found n b))
+
+reads-value : (b : ℕ) (o : Option ℕ) → o ≡ valueBelow 64 b → Reads radio b o
+unfolding Found
+reads-value b None e = subst (Found 64 b) (sym e) (found 64 b)
+reads-value b (Some v) e = subst (Found 64 b) (sym e) (found 64 b)
+
+agree-same : (o : Option SixBit) (v : Option ℕ) → agrees o v ≡ true → mapped numberOf o ≡ v
+agree-same None None e = refl
+agree-same None (Some n) e = absurd (false≢true e)
+agree-same (Some v) None e = absurd (false≢true e)
+agree-same (Some v) (Some n) e = ap (λ m. Some m) (eqb-true (numberOf v) n e)
+
+-- what stands at a byte's place
+pub reads : (table : List (Option SixBit)) → length table ≡ 256 → ReadsBelow 64 table → (b : ℕ) → b < 256 → (d : Option SixBit) → Reads radio b (mapped numberOf (getD table b d))
+reads table long inverse b h d =
+    reads-value b _ (ap (mapped numberOf) (getD-default table b d None (omega arith)) ∙ agree-same (getD table b None) (valueBelow 64 b) (inverse b h))
+
+pub reads-none : ReadsBelow 0 (replicate 256 None)
+unfolding valueBelow
+reads-none b h = ap (λ o. agrees o None) (getD-replicate 256 b None None h)
+
+-- one more symbol noted in the table
+pub reads-more : (n x : ℕ) (v : SixBit) (table : List (Option SixBit)) → length table ≡ 256 → numberOf v ≡ n → x ≡ radioSymbol n → x < 256 → ReadsBelow n table → ReadsBelow (n + 1) (set table x (Some v))
+unfolding valueBelow
+reads-more n x v table long ev ex hx inv b hb =
+    rw add-one
+    (cond-both (eqb (radioSymbol n) b) (Some n) (valueBelow n b) (λ o. agrees (getD (set table x (Some v)) b None) o ≡ true)
+    (λ e. let s : x ≡ b = ex ∙ eqb-true (radioSymbol n) b e in
+    subst (λ (y : ℕ). agrees (getD (set table x (Some v)) y None) (Some n) ≡ true) s (ap (λ o. agrees o (Some n)) (getD-set-same table x (Some v) None (omega arith)) ∙ eq-eqb (numberOf v) n ev))
+    (λ e. let ne : b ≢ x = λ q. eqb-false (radioSymbol n) b e (sym ex ∙ sym q) in ap (λ o. agrees o (valueBelow n b)) (getD-set-other table x b (Some v) None ne) ∙ inv b hb))
+
+pub moved-below : (r b : ℕ) → movedUp r b < 256
+unfolding movedUp
+moved-below r b =
+    xor-lt 8 (r * 2 % 256) (cond (eqb (r / 128) b) 0 0xA6) (mod-below (r * 2) 256 (omega arith))
+    (cond-both (eqb (r / 128) b) 0 0xA6 (λ x. x < 256) (λ e. omega arith) (λ e. omega arith))
+
+pub register-below : (r : ℕ) (bs : List ℕ) → r < 256 → registerAfter r bs < 256
+register-below r [] h = h
+register-below r (b ∷ bs) h = register-below (movedUp r b) bs (moved-below r b)
+
+register-append : (r : ℕ) (xs ys : List ℕ) → registerAfter r (xs ++ ys) ≡ registerAfter (registerAfter r xs) ys
+register-append r [] ys = refl
+register-append r (x ∷ xs) ys = register-append (movedUp r x) xs ys
+
+-- one bit moved in
+pub moved-in : (r i n r′ : ℕ) → 0 < i → r′ ≡ movedUp r (bitAnd (n / 2 ^ (i - 1)) 1) → registerAfter r′ (digits 2 (i - 1) n) ≡ registerAfter r (digits 2 i n)
+moved-in r i n r′ h e = rw (digits-step i n h, e, bit-at n i)
+
+-- one more byte moved through
+pub registered-more : (bytes : List ℕ) (i r r′ : ℕ) → i < length bytes → r′ ≡ registerAfter r (digits 2 8 (getD bytes i 0)) → registerAfter r′ (bitsOf 8 (drop (i + 1) bytes)) ≡ registerAfter r (bitsOf 8 (drop i bytes))
+registered-more bytes i r r′ h e =
+    rw (drop-more bytes i 0, e) (sym (register-append r (digits 2 8 (getD bytes i 0)) (bitsOf 8 (drop (i + 1) bytes))))
+
+-- one more value's symbol moved through
+pub radio-step : (vs : List SixBit) (v : SixBit) (i r s r′ : ℕ) → i < length vs → v ≡ getD vs i v → s ≡ radioSymbol (numberOf v) → r′ ≡ registerAfter r (digits 2 8 s)
+    → registerAfter r′ (bitsOf 8 (drop (i + 1) (map radioSymbol (numbers vs)))) ≡ registerAfter r (bitsOf 8 (drop i (map radioSymbol (numbers vs))))
+radio-step vs v i r s r′ h e es er =
+    let n : i < length (numbers vs) = rw length-map h in
+    registered-more (map radioSymbol (numbers vs)) i r r′ (rw length-map n)
+    (er ∙ ap (λ x. registerAfter r (digits 2 8 x)) (es ∙ ap radioSymbol (number-at vs v i h e) ∙ sym (getD-map radioSymbol (numbers vs) i 0 0 n)))
+
+pub radio-end : (vs : List SixBit) (i r : ℕ) → length vs ≤ i
+    → registerAfter r (bitsOf 8 (drop i (map radioSymbol (numbers vs)))) ≡ registerOver (map radioSymbol (numbers vs))
+    → r ≡ registerOver (map radioSymbol (numbers vs))
+radio-end vs i r h inv =
+    let n : length (numbers vs) ≤ i = rw length-map h in
+    ap (λ bytes. registerAfter r (bitsOf 8 bytes)) (sym (drop-all i (map radioSymbol (numbers vs)) (rw length-map n))) ∙ inv

@@ -1,0 +1,12 @@
+use native.Mathlib.Omega.{arith}
+use Rattle.line.specs.Cable.{cableMessage}
+use Rattle.line.proofs.Dividing.{remainder-below}
+use Rattle.line.proofs.Lines.{cable-bits}
+use Rattle.line.proofs.cable.CableLine.the-impl.Needs as need
+
+pub lawful-law : need.lawful-law
+lawful-law l = record {
+  byte = λ v h. omega arith;
+  distinct = λ v w hv hw e. omega arith;
+  sixBits = λ vs h. remainder-below 6 0x43 (omega arith) (omega arith) 0 (cableMessage vs) (omega arith) (cable-bits vs);
+}

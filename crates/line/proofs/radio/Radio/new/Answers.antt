@@ -1,0 +1,20 @@
+use borrow.Author.Needs.{needs}
+use native.Mathlib.Omega.{arith}
+use mathlib.Core.Path.{_≡_, refl, subst}
+use Prim.Native.Nat.{ℕ}
+use lib.ListN.{length-set}
+use Rattle.line.specs.Radio.{ReadsBelow}
+use Rattle.line.proofs.Radios.{reads-none, reads-more}
+use Rattle.line.proofs.radio.Radio.new.Needs as need
+
+pub loop-number-holds : need.loop-number-holds
+loop-number-holds c = (refl, reads-none)
+
+pub loop-number-again : need.loop-number-again
+loop-number-again c = (
+  simp length-set (c .loop-number .inv .0),
+  reads-more (c .loop-number .number) _ _ (c .loop-number .values) (c .loop-number .inv .0) refl (c .symbol-of .ensures) (search needs) (c .loop-number .inv .1),
+)
+
+pub ghost-result : need.ghost-result
+ghost-result c = let e : c .loop-number .number ≡ 64 = omega arith in (subst (λ (n : ℕ). ReadsBelow n (c .loop-number .values)) e (c .loop-number .inv .1), tt)

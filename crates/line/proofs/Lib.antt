@@ -1,3 +1,4 @@
+pub mod Codes
 pub mod Dividing
 pub mod Quotient
 pub mod Lines

@@ -18,9 +18,10 @@ use Rattle.std.proofs.shelf.Tests.{cond-both, eqb-true, eqb-false, ltb-true, eq
 use Rattle.line.specs.declared.six_bit.SixBit.{SixBit}
 use Rattle.line.specs.Values.{numberOf, numbers}
 use Rattle.line.specs.Digits.{digits, bitsOf}
-use Rattle.line.specs.Code.{Reads}
-use Rattle.line.specs.Radio.{radioSymbols, radioSymbol, movedUp, registerAfter, registerOver, radio, valueBelow, agrees, ReadsBelow}
+use Rattle.line.specs.Code.{Reads, valueBelow}
+use Rattle.line.specs.Radio.{radioSymbols, radioSymbol, movedUp, registerAfter, registerOver, radio, agrees, ReadsBelow}
 use Rattle.line.proofs.Tables.{at}
+use Rattle.line.proofs.Codes.{searched}
 use Rattle.line.proofs.Lines.{number-at}
 use Rattle.line.proofs.Dividing.{digits-step, bit-at}
 
@@ -47,29 +48,6 @@ symbol-place v h = eqb-true (place (getD radioSymbols v 0) radioSymbols) v (at s
 pub symbol-distinct : (v w : ℕ) → v < 64 → w < 64 → radioSymbol v ≡ radioSymbol w → v ≡ w
 symbol-distinct v w hv hw e = sym (symbol-place v hv) ∙ ap (λ x. place x radioSymbols) e ∙ symbol-place w hw
 
--- what the search below n finds
-Found : ℕ → ℕ → Option ℕ → Type 0
-Found n b None = (v : ℕ) → v < n → radioSymbol v ≡ b → ⊥
-Found n b (Some v) = (v < n) × (radioSymbol v ≡ b)
-
-found-more : (n b : ℕ) → (radioSymbol n ≡ b → ⊥) → (o : Option ℕ) → Found n b o → Found (suc n) b o
-unfolding Found
-found-more n b ne None f = λ v h e. grind (arith, f v)
-found-more n b ne (Some v) f = (omega (arith, f .0), f .1)
-
-found : (n b : ℕ) → Found n b (valueBelow n b)
-unfolding valueBelow Found
-found zero b = λ v h e. omega arith
-found (suc n) b =
-    cond-both (eqb (radioSymbol n) b) (Some n) (valueBelow n b) (Found (suc n) b)
-    (λ e. (omega arith, eqb-true (radioSymbol n) b e))
-    (λ e. found-more n b (eqb-false (radioSymbol n) b e) (valueBelow n b) (found n b))
-
-reads-value : (b : ℕ) (o : Option ℕ) → o ≡ valueBelow 64 b → Reads radio b o
-unfolding Found
-reads-value b None e = subst (Found 64 b) (sym e) (found 64 b)
-reads-value b (Some v) e = subst (Found 64 b) (sym e) (found 64 b)
-
 agree-same : (o : Option SixBit) (v : Option ℕ) → agrees o v ≡ true → mapped numberOf o ≡ v
 agree-same None None e = refl
 agree-same None (Some n) e = absurd (false≢true e)
@@ -79,7 +57,7 @@ agree-same (Some v) (Some n) e = ap (λ m. Some m) (eqb-true (numberOf v) n e)
 -- what stands at a byte's place
 pub reads : (table : List (Option SixBit)) → length table ≡ 256 → ReadsBelow 64 table → (b : ℕ) → b < 256 → (d : Option SixBit) → Reads radio b (mapped numberOf (getD table b d))
 reads table long inverse b h d =
-    reads-value b _ (ap (mapped numberOf) (getD-default table b d None (omega arith)) ∙ agree-same (getD table b None) (valueBelow 64 b) (inverse b h))
+    searched radio b _ (ap (mapped numberOf) (getD-default table b d None (omega arith)) ∙ agree-same (getD table b None) (valueBelow radioSymbol 64 b) (inverse b h))
 
 pub reads-none : ReadsBelow 0 (replicate 256 None)
 unfolding valueBelow
@@ -90,10 +68,10 @@ pub reads-more : (n x : ℕ) (v : SixBit) (table : List (Option SixBit)) → len
 unfolding valueBelow
 reads-more n x v table long ev ex hx inv b hb =
     rw add-one
-    (cond-both (eqb (radioSymbol n) b) (Some n) (valueBelow n b) (λ o. agrees (getD (set table x (Some v)) b None) o ≡ true)
+    (cond-both (eqb (radioSymbol n) b) (Some n) (valueBelow radioSymbol n b) (λ o. agrees (getD (set table x (Some v)) b None) o ≡ true)
     (λ e. let s : x ≡ b = ex ∙ eqb-true (radioSymbol n) b e in
     subst (λ (y : ℕ). agrees (getD (set table x (Some v)) y None) (Some n) ≡ true) s (ap (λ o. agrees o (Some n)) (getD-set-same table x (Some v) None (omega arith)) ∙ eq-eqb (numberOf v) n ev))
-    (λ e. let ne : b ≢ x = λ q. eqb-false (radioSymbol n) b e (sym ex ∙ sym q) in ap (λ o. agrees o (valueBelow n b)) (getD-set-other table x b (Some v) None ne) ∙ inv b hb))
+    (λ e. let ne : b ≢ x = λ q. eqb-false (radioSymbol n) b e (sym ex ∙ sym q) in ap (λ o. agrees o (valueBelow radioSymbol n b)) (getD-set-other table x b (Some v) None ne) ∙ inv b hb))
 
 pub moved-below : (r b : ℕ) → movedUp r b < 256
 unfolding movedUp

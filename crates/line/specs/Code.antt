@@ -1,7 +1,9 @@
 -- What a line is: which byte stands for each six-bit value, and the check over a list of values. Assumes nothing.
 use mathlib.Core.Path.{_≡_}
+use mathlib.Core.Bool.{cond}
 use mathlib.Core.List.{List}
-use Prim.Native.Nat.{ℕ, _<_}
+use Prim.Native.Nat.{ℕ, zero, suc, _<_}
+use lib.Dec.{eqb}
 use Rattle.std.specs.declared.option.Option.{Option}
 use Rattle.std.specs.declared.option.Option.the-variants.{None, Some}
 use Rattle.std.specs.shelf.Digits.{Under}
@@ -20,3 +22,11 @@ pub record Lawful (code : LineCode) : Type 0 where
 abbrev pub Reads : LineCode → ℕ → Option ℕ → Type 0
 Reads code b None = (v : ℕ) → v < 64 → code .symbol v ≡ b → ⊥
 Reads code b (Some v) = (v < 64) × (code .symbol v ≡ b)
+
+-- The same answer, worked out: the value below n whose symbol is the byte b, or none.
+unfoldable pub valueBelow : (ℕ → ℕ) → ℕ → ℕ → Option ℕ
+valueBelow symbol zero b = None
+valueBelow symbol (suc n) b = cond (eqb (symbol n) b) (Some n) (valueBelow symbol n b)
+
+abbrev pub valueOf : LineCode → ℕ → Option ℕ
+valueOf code b = valueBelow (code .symbol) 64 b

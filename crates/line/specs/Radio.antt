@@ -2,7 +2,7 @@
 use mathlib.Core.Path.{_≡_}
 use mathlib.Core.Bool.{Bool, true, false, cond}
 use mathlib.Core.List.{List, [], _∷_, map}
-use Prim.Native.Nat.{ℕ, zero, suc, _*_, _/_, _%_, _<_}
+use Prim.Native.Nat.{ℕ, _*_, _/_, _%_, _<_}
 use lib.Bits.{bitXor}
 use lib.Dec.{eqb}
 use lib.ListN.{getD}
@@ -11,7 +11,7 @@ use Rattle.std.specs.declared.option.Option.the-variants.{None, Some}
 use Rattle.line.specs.declared.six_bit.SixBit.{SixBit}
 use Rattle.line.specs.Values.{numberOf}
 use Rattle.line.specs.Digits.{bitsOf}
-use Rattle.line.specs.Code.{LineCode}
+use Rattle.line.specs.Code.{LineCode, valueBelow}
 
 -- the byte that stands for each value, at the value's place: chosen for a receiver's clock, with about as many ones as zeros
 unfoldable pub radioSymbols : List ℕ
@@ -45,11 +45,6 @@ registerOver bytes = registerAfter 0xFF (bitsOf 8 bytes)
 abbrev pub radio : LineCode
 radio = record { symbol = radioSymbol; check = λ vs. registerOver (map radioSymbol vs) / 4 }
 
--- the value below n whose symbol is the byte b, or none
-unfoldable pub valueBelow : ℕ → ℕ → Option ℕ
-valueBelow zero b = None
-valueBelow (suc n) b = cond (eqb (radioSymbol n) b) (Some n) (valueBelow n b)
-
 abbrev pub agrees : Option SixBit → Option ℕ → Bool
 agrees None None = true
 agrees None (Some n) = false
@@ -58,4 +53,4 @@ agrees (Some v) (Some n) = eqb (numberOf v) n
 
 -- A table that tells at each byte the value below n whose symbol it is, or none.
 abbrev pub ReadsBelow : ℕ → List (Option SixBit) → Type 0
-ReadsBelow n table = (b : ℕ) → b < 256 → agrees (getD table b None) (valueBelow n b) ≡ true
+ReadsBelow n table = (b : ℕ) → b < 256 → agrees (getD table b None) (valueBelow radioSymbol n b) ≡ true

@@ -5,6 +5,8 @@ ghost use Rattle.line.specs.Values.{numberOf, sixBitOf};
 use crate::six_bit::SixBit;
 
 impl SixBit {
+    pub const ZERO: SixBit = SixBit { number: 0 };
+
     // The value of this number, or none from 64 on.
     pub fn new(number: u8) -> Option<SixBit>
         ensures { λ r. ⌜ mapped numberOf r ≡ sixBitOf number ⌝ }

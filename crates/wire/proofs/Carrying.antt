@@ -1,0 +1,146 @@
+-- What is written on a line is read from it again, and a frame that was carried comes back. Assumes nothing.
+use mathlib.Core.Path.{_≡_, refl, ap, sym, _∙_, subst}
+use mathlib.Core.Bool.{Bool, true, false}
+use mathlib.Core.List.{List, [], _∷_, _++_, map}
+use Prim.Native.Nat.{ℕ, _+_, _-_, _<_, _≤_}
+use native.Mathlib.Omega.{arith}
+use lib.Dec.{eqb}
+use borrow.Rule.Slice.PartMut.{postOf}
+use lib.ListN.{length, getD, take, drop, set, length-set}
+use Rattle.std.proofs.shelf.Lists.{length-map, length-take-le, getD-set-same, drop-set-lt, set-set, set-getD, take-at}
+use Rattle.std.proofs.shelf.Elements.{all-drop, all-set}
+use Rattle.std.proofs.shelf.Tests.{eq-eqb, eqb-true, le-leb}
+use Rattle.std.proofs.shelf.Ways.{tells}
+use Rattle.std.specs.Options.{valueOr, mapped}
+use Rattle.std.specs.declared.option.Option.{Option}
+use Rattle.std.specs.declared.option.Option.the-variants.{None, Some}
+use Rattle.std.specs.shelf.Digits.{Under}
+use Rattle.line.specs.declared.six_bit.SixBit.{SixBit}
+use Rattle.line.specs.Values.{numbers}
+use Rattle.line.specs.Code.{LineCode, Lawful, valueOf}
+use Rattle.line.proofs.Codes.{symbol-value, value-small, value-symbol}
+use Rattle.wire.specs.declared.fault.LineFault.the-variants.{Length, NoSymbol, Check}
+use Rattle.wire.specs.Frames.{frameLength, firstNoSymbol, orLater, valuesOf, checkOver, checkHolds, withCheck, bytesOf}
+use Rattle.wire.specs.declared.fault.CarryFault.the-variants.{Buffer, Line}
+use Rattle.wire.specs.Refusing.{orElse, unless, lineRefusal, carryRefusal, carried}
+
+pub frame-least : (n : ℕ) → frameLength n ≡ true → 3 ≤ n
+frame-least n e = grind (arith, tells)
+
+pub frame-most : (n : ℕ) → frameLength n ≡ true → n ≤ 48
+frame-most n e = grind (arith, tells)
+
+pub values-long : (vs : List SixBit) (n : ℕ) → length vs ≡ 48 → frameLength n ≡ true → length (numbers (take n vs)) ≡ n
+values-long vs n long e = let h = frame-most n e in rw (length-map, length-take-le n vs (omega arith))
+
+-- a frame's bytes written over the front of a buffer
+pub front-written : (code : LineCode) (vs : List SixBit) (n : ℕ) (was out : List ℕ) → length vs ≡ 48 → frameLength n ≡ true → out ≡ bytesOf code (numbers (take (n - 0) vs)) → out ++ postOf 0 (n - 0) was ≡ bytesOf code (numbers (take n vs)) ++ drop (length (numbers (take n vs))) was
+front-written code vs n was out long e eo =
+    let z : n - 0 ≡ n = omega arith in
+    rw (values-long vs n long e, eo, z)
+
+-- of two refusals none applies only where neither does
+neither : {F : Type 0} (x y : Option F) → orElse x y ≡ None → (x ≡ None) × (y ≡ None)
+neither None y e = (refl, e)
+neither (Some f) y e = absurd (let z : _≡_ {A = ℕ} 0 1 = cc in omega arith)
+
+unless-none : {F : Type 0} (b : Bool) (f : F) → unless b f ≡ None → b ≡ true
+unless-none true f e = refl
+unless-none false f e = absurd (let z : _≡_ {A = ℕ} 0 1 = cc in omega arith)
+
+mapped-none : {A B : Type 0} (f : A → B) (o : Option A) → mapped f o ≡ None → o ≡ None
+mapped-none f None e = refl
+mapped-none f (Some x) e = absurd (let z : _≡_ {A = ℕ} 0 1 = cc in omega arith)
+
+-- what a frame that is not refused has
+pub record Sound (code : LineCode) (bytes : List ℕ) : Type 0 where
+  pub whole : frameLength (length bytes) ≡ true
+  pub symbols : firstNoSymbol code 0 bytes ≡ None
+  pub check : checkHolds code (valuesOf code bytes) ≡ true
+
+pub sound : (code : LineCode) (bytes : List ℕ) → lineRefusal code bytes ≡ None → Sound code bytes
+sound code bytes e =
+    let p = neither (unless (frameLength (length bytes)) Length) _ e in
+    let q = neither (mapped NoSymbol (firstNoSymbol code 0 bytes)) _ (p .1) in
+    record {
+      whole = unless-none (frameLength (length bytes)) Length (p .0);
+      symbols = mapped-none NoSymbol (firstNoSymbol code 0 bytes) (q .0);
+      check = unless-none (checkHolds code (valuesOf code bytes)) Check (q .1);
+    }
+
+pub accepted : (code : LineCode) (bytes : List ℕ) → Sound code bytes → lineRefusal code bytes ≡ None
+accepted code bytes s = rw (s .whole, s .symbols, s .check)
+
+value-under : (code : LineCode) (b : ℕ) (o : Option ℕ) → valueOf code b ≡ o → valueOr o 0 < 64
+value-under code b None e = omega arith
+value-under code b (Some v) e = value-small code b v e
+
+pub values-under : (code : LineCode) (bytes : List ℕ) → Under 64 (valuesOf code bytes)
+values-under code [] = tt
+values-under code (b ∷ bs) = (value-under code b (valueOf code b) refl, values-under code bs)
+
+-- bytes that are all symbols are those of their values
+symbol-again : (code : LineCode) (i b : ℕ) (o : Option ℕ) (later : Option ℕ) → valueOf code b ≡ o → orLater i o later ≡ None → (code .symbol (valueOr o 0) ≡ b) × (later ≡ None)
+symbol-again code i b None later e n = absurd (let z : _≡_ {A = ℕ} 0 1 = cc in omega arith)
+symbol-again code i b (Some v) later e n = (value-symbol code b v e, n)
+
+pub bytes-again : (code : LineCode) (i : ℕ) (bytes : List ℕ) → firstNoSymbol code i bytes ≡ None → map (code .symbol) (valuesOf code bytes) ≡ bytes
+bytes-again code i [] n = refl
+bytes-again code i (b ∷ bs) n =
+    let p = symbol-again code i b (valueOf code b) (firstNoSymbol code (i + 1) bs) refl n in
+    rw (p .0, bytes-again code (i + 1) bs (p .1))
+
+module _ (code : LineCode) (lawful : Lawful code) where
+  -- symbols that were written are read again
+  pub values-again : (vs : List ℕ) → Under 64 vs → valuesOf code (map (code .symbol) vs) ≡ vs
+  values-again [] u = refl
+  values-again (v ∷ vs) u = rw (symbol-value code lawful v (u .0), values-again vs (u .1))
+
+  all-symbols : (i : ℕ) (vs : List ℕ) → Under 64 vs → firstNoSymbol code i (map (code .symbol) vs) ≡ None
+  all-symbols i [] u = refl
+  all-symbols i (v ∷ vs) u = rw (symbol-value code lawful v (u .0)) (all-symbols (i + 1) vs (u .1))
+
+  check-under : (vs : List ℕ) → Under 64 vs → Under 64 (withCheck code vs)
+  check-under vs u = all-set (λ v. v < 64) vs 2 (checkOver code vs) (lawful .sixBits (drop 3 vs) (all-drop (λ v. v < 64) 3 vs u)) u
+
+  check-again : (vs : List ℕ) → 3 ≤ length vs → checkHolds code (withCheck code vs) ≡ true
+  check-again vs h =
+      eq-eqb (getD (withCheck code vs) 2 0) (checkOver code (withCheck code vs))
+      (getD-set-same vs 2 (checkOver code vs) 0 (omega arith) ∙ sym (ap (code .check) (drop-set-lt 3 vs 2 (checkOver code vs) (omega arith))))
+
+  -- a frame that was written reads as its values, with the line's own check
+  pub written-reads : (vs : List ℕ) → Under 64 vs → valuesOf code (bytesOf code vs) ≡ withCheck code vs
+  written-reads vs u = values-again (withCheck code vs) (check-under vs u)
+
+  pub written-sound : (vs : List ℕ) → Under 64 vs → frameLength (length vs) ≡ true → Sound code (bytesOf code vs)
+  written-sound vs u e = record {
+    whole = rw (length-map, length-set) e;
+    symbols = all-symbols 0 (withCheck code vs) (check-under vs u);
+    check = rw (written-reads vs u) (check-again vs (frame-least (length vs) e));
+  }
+
+pub carried-long : (a b : LineCode) (bytes : List ℕ) → length (carried a b bytes) ≡ length bytes
+carried-long a b bytes = rw (length-map, length-set, length-map)
+
+module _ (a b : LineCode) (lawful : Lawful b) (bytes : List ℕ) (s : Sound a bytes) where
+  carried-accepted : lineRefusal b (carried a b bytes) ≡ None
+  carried-accepted = accepted b (carried a b bytes) (written-sound b lawful (valuesOf a bytes) (values-under a bytes) (rw length-map (s .whole)))
+
+  -- over another line's check the first line's own comes to stand again
+  carried-back : carried b a (carried a b bytes) ≡ bytes
+  carried-back =
+      let vs = valuesOf a bytes in
+      let h : 3 ≤ length bytes = frame-least (length bytes) (s .whole) in
+      let behind : drop 3 (withCheck b vs) ≡ drop 3 vs = drop-set-lt 3 vs 2 (checkOver b vs) (omega arith) in
+      let restored : withCheck a (withCheck b vs) ≡ vs =
+      ap (λ ds. set (withCheck b vs) 2 (a .check ds)) behind ∙ set-set vs 2 (checkOver b vs) (checkOver a vs) ∙ ap (set vs 2) (sym (eqb-true (getD vs 2 0) (checkOver a vs) (s .check))) ∙ set-getD vs 2 0 in
+      ap (bytesOf a) (written-reads b lawful vs (values-under a bytes)) ∙ ap (map (a .symbol)) restored ∙ bytes-again a 0 bytes (s .symbols)
+
+  -- the same of the front of a buffer that they were written to
+  pub front-back : (n : ℕ) (out tail : List ℕ) → n ≡ length bytes → out ≡ carried a b bytes ++ tail → (lineRefusal b (take n out) ≡ None) × (carried b a (take n out) ≡ bytes)
+  front-back n out tail en eo =
+      let front : take n out ≡ carried a b bytes = ap (take n) eo ∙ take-at (carried a b bytes) tail n (carried-long a b bytes ∙ sym en) in
+      (ap (lineRefusal b) front ∙ carried-accepted, ap (carried b a) front ∙ carried-back)
+
+pub carry-accepted : (code : LineCode) (room : ℕ) (bytes : List ℕ) → 48 ≤ room → lineRefusal code bytes ≡ None → carryRefusal code room bytes ≡ None
+carry-accepted code room bytes h e = ap (λ t. orElse (unless t (Buffer (record {}))) (mapped Line (lineRefusal code bytes))) (le-leb 48 room h) ∙ ap (mapped Line) e

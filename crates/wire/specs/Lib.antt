@@ -1,0 +1,3 @@
+pub mod Frames
+pub mod Values
+pub mod Refusing

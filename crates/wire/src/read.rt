@@ -1,0 +1,77 @@
+// A frame's bytes read as values.
+ghost use mathlib.Core.Path.{_≡_};
+ghost use mathlib.Core.Bool.{true};
+ghost use Prim.Native.Nat.{_≤_};
+ghost use lib.ListN.{length};
+ghost use Rattle.std.specs.Options.{mapped};
+ghost use Rattle.std.specs.Results.{Cases};
+ghost use Rattle.std.specs.declared.option.Option.the-variants.{None, Some};
+ghost use Rattle.line.specs.Values.{numbers};
+ghost use Rattle.wire.specs.Frames.{frameLength, firstNoSymbol, valuesOf, checkHolds};
+ghost use Rattle.wire.specs.Values.{valuesIn};
+ghost use Rattle.wire.specs.Refusing.{lineRefusal};
+ghost use Rattle.wire.specs.declared.fault.LineFault.the-variants.{NoSymbol as no-symbol};
+use crate::fault::LineFault;
+use crate::frame_values::FrameValues;
+use line::Line;
+use line::SixBit;
+
+fn is_frame_length(count: usize) -> bool
+    ensures { λ r. ⌜ r ≡ frameLength count ⌝ }
+{
+    matches!(count, 26 | 37 | 48)
+}
+
+// Reads each symbol, up to the first byte that is none.
+fn decode<L: Line>(line: &L, frame: &[u8], values: &mut [SixBit]) -> Result<(), LineFault>
+    requires { ⌜ length (now values) ≡ length (now frame) ⌝ ∗ ⌜ length (now frame) ≤ 48 ⌝ }
+    ensures { λ r. ⌜ Cases r (λ _. (firstNoSymbol (L·Line .code (now (line .entry))) 0 (now (frame .entry)) ≡ None) × (numbers (now (values .exit)) ≡ valuesOf (L·Line .code (now (line .entry))) (now (frame .entry)))) (λ e. Some e ≡ mapped no-symbol (firstNoSymbol (L·Line .code (now (line .entry))) 0 (now (frame .entry)))) ⌝ }
+{
+    for i in 0..frame.len() {
+        match line.value(frame[i]) {
+            Some(value) => values[i] = value,
+            None => return Err(LineFault::NoSymbol(i as u8)),
+        }
+    }
+    Ok(())
+}
+
+fn check_holds<L: Line>(line: &L, values: &[SixBit]) -> bool
+    requires { ⌜ 3 ≤ length (now values) ⌝ }
+    ensures { λ r. ⌜ r ≡ checkHolds (L·Line .code (now (line .entry))) (numbers (now (values .entry))) ⌝ }
+{
+    values[2].get() == line.check(&values[3..]).get()
+}
+
+// Reads each symbol, and holds the check to the values behind it.
+fn read_into<L: Line>(line: &L, frame: &[u8], values: &mut [SixBit]) -> Result<(), LineFault>
+    requires { ⌜ length (now values) ≡ length (now frame) ⌝ ∗ ⌜ frameLength (length (now frame)) ≡ true ⌝ }
+    ensures { λ r. ⌜ Cases r (λ _. (lineRefusal (L·Line .code (now (line .entry))) (now (frame .entry)) ≡ None) × (numbers (now (values .exit)) ≡ valuesOf (L·Line .code (now (line .entry))) (now (frame .entry)))) (λ e. lineRefusal (L·Line .code (now (line .entry))) (now (frame .entry)) ≡ Some e) ⌝ }
+{
+    decode(line, frame, values)?;
+    if !check_holds(line, values) {
+        return Err(LineFault::Check);
+    }
+    Ok(())
+}
+
+fn blank() -> [SixBit; 48]
+    ensures { λ r. ⌜ length r ≡ 48 ⌝ }
+{
+    [SixBit::ZERO; 48]
+}
+
+impl FrameValues {
+    // Reads the values of a frame's bytes, or tells the first fault that applies.
+    pub fn read<L: Line>(line: &L, frame: &[u8]) -> Result<FrameValues, LineFault>
+        ensures { λ r. ⌜ Cases r (λ f. (lineRefusal (L·Line .code (now (line .entry))) (now (frame .entry)) ≡ None) × (valuesIn f ≡ valuesOf (L·Line .code (now (line .entry))) (now (frame .entry)))) (λ e. lineRefusal (L·Line .code (now (line .entry))) (now (frame .entry)) ≡ Some e) ⌝ }
+    {
+        let count = frame.len();
+        if !is_frame_length(count) {
+            return Err(LineFault::Length);
+        }
+        let mut values = blank();
+        read_into(line, frame, &mut values[0..count])?;
+        Ok(FrameValues { values, count })
+    }
+}

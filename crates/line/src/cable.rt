@@ -44,3 +44,14 @@ pub impl Line for Cable as CableLine {
         }
     }
 }
+
+#[cfg(test)]
+mod tests {
+    use super::*;
+    use std::test::*;
+
+    #[test]
+    fn empty_check() -> Result<(), Fail> {
+        check_eq(Cable.check(&[]).get(), 0)
+    }
+}

@@ -1,6 +1,6 @@
 // The radio line.
 ghost use mathlib.Core.Path.{_≡_};
-ghost use Prim.Native.Nat.{_/_};
+ghost use Prim.Native.Nat.{_/_, _≤_};
 ghost use Rattle.std.specs.Options.{mapped};
 ghost use Rattle.line.specs.Values.{numberOf};
 ghost use Rattle.line.specs.Digits.{digits};
@@ -117,14 +117,24 @@ pub struct Radio {
     ghost inverse: { ReadsBelow 64 values },
 }
 
+// A table of 256 places, "no symbol" at each until it is filled from the symbols of the values below `count`.
+fn filled_below(count: u8) -> [Option<SixBit>; 256]
+    requires { ⌜ count ≤ 64 ⌝ }
+    ensures { λ r. ⌜ ReadsBelow count r ⌝ }
+{
+    let mut values = [None; 256];
+    for number in 0..count {
+        let next = SixBit { number };
+        values[symbol_of(next) as usize] = Some(next);
+    }
+    values
+}
+
 impl Radio {
     pub fn new() -> Radio {
-        let mut values = [None; 256];
-        for number in 0..64u8 {
-            let value = SixBit { number };
-            values[symbol_of(value) as usize] = Some(value);
+        Radio {
+            values: filled_below(64),
         }
-        Radio { values }
     }
 
     fn looked_up(&self, byte: u8) -> Option<SixBit>
@@ -151,5 +161,44 @@ pub impl Line for Radio as RadioLine {
             register = moved_through(register, symbol_of(*value));
         }
         upper_six(register)
+    }
+}
+
+#[cfg(test)]
+mod tests {
+    use super::*;
+    use std::test::*;
+
+    #[test]
+    fn register_figure() -> Result<(), Fail> {
+        let mut moved = 0xFF;
+        for byte in b"123456789" {
+            moved = moved_through(moved, *byte);
+        }
+        check_eq(moved, 0x6C)
+    }
+
+    #[test]
+    fn check_figures(rt: LibcRuntime) -> Result<(), Fail> {
+        let radio = Radio::new();
+        let symbols =
+            b"\xB4\xB5\xC5\x6A\x3C\xB5\x39\x39\xB4\xBA\xB5\xBC\xB2\x53\xC4\x6A\x3C\xB9\x39\x56\xA9\xD4\x5C";
+        let mut values = Vec::new(rt.alloc());
+        for symbol in symbols {
+            let Some(value) = radio.value(*symbol) else {
+                return Err(Fail::new("no symbol"));
+            };
+            values.push(value)?;
+        }
+        check_eq(radio.check(&values).get(), 0x2C)?;
+        check_eq(radio.check(&[]).get(), 0x3F)
+    }
+
+    #[test]
+    fn symbol_figures() -> Result<(), Fail> {
+        let radio = Radio::new();
+        check_eq(radio.symbol(SixBit { number: 0 }), 0xB4)?;
+        check_eq(radio.symbol(SixBit { number: 3 }), 0xBA)?;
+        check(radio.value(0x00).is_none())
     }
 }

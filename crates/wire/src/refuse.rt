@@ -45,15 +45,15 @@ impl CarryFault {
 pub impl From<ShortBuffer> for CarryFault as CarryFaultFromBuffer {
     ghost converts = { λ e r. r ≡ in-buffer e };
 
-    fn from(fault: ShortBuffer) -> CarryFault {
-        CarryFault::Buffer(fault)
+    fn from(short: ShortBuffer) -> CarryFault {
+        CarryFault::Buffer(short)
     }
 }
 
 pub impl From<LineFault> for CarryFault as CarryFaultFromLine {
     ghost converts = { λ e r. r ≡ in-line e };
 
-    fn from(fault: LineFault) -> CarryFault {
-        CarryFault::Line(fault)
+    fn from(refused: LineFault) -> CarryFault {
+        CarryFault::Line(refused)
     }
 }

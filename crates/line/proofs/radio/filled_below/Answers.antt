@@ -5,7 +5,7 @@ use Prim.Native.Nat.{ℕ}
 use lib.ListN.{length-set}
 use Rattle.line.specs.Radio.{ReadsBelow}
 use Rattle.line.proofs.Radios.{reads-none, reads-more}
-use Rattle.line.proofs.radio.Radio.new.Needs as need
+use Rattle.line.proofs.radio.filled_below.Needs as need
 
 pub loop-number-holds : need.loop-number-holds
 loop-number-holds c = (refl, reads-none)
@@ -16,5 +16,5 @@ loop-number-again c = (
   reads-more (c .loop-number .number) _ _ (c .loop-number .values) (c .loop-number .inv .0) refl (c .symbol-of .ensures) (search needs) (c .loop-number .inv .1),
 )
 
-pub ghost-result : need.ghost-result
-ghost-result c = let e : c .loop-number .number ≡ 64 = omega arith in (subst (λ (n : ℕ). ReadsBelow n (c .loop-number .values)) e (c .loop-number .inv .1), tt)
+pub returns : need.returns
+returns c = let e : c .loop-number .number ≡ c .args .count = omega arith in subst (λ (n : ℕ). ReadsBelow n (c .loop-number .values)) e (c .loop-number .inv .1)

@@ -4,3 +4,4 @@ pub mod Quotient
 pub mod Lines
 pub mod Tables
 pub mod Radios
+pub mod Registers

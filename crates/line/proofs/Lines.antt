@@ -6,7 +6,7 @@ use native.Mathlib.Omega.{arith}
 use lib.ListN.{length, drop, getD, replicate}
 use Rattle.std.proofs.shelf.Elements.{all-append}
 use Rattle.std.proofs.shelf.Lists.{getD-map, length-map, drop-all, getD-read}
-use Rattle.std.specs.shelf.Digits.{Under}
+use Rattle.std.specs.shelf.Digits.{number, Under}
 use Rattle.line.specs.declared.six_bit.SixBit.{SixBit}
 use Rattle.line.specs.declared.division.Division.{Division}
 use Rattle.line.specs.Values.{numberOf, numbers}
@@ -23,9 +23,9 @@ number-at vs v i h e = ap numberOf e ∙ sym (getD-map numberOf vs i v 0 h)
 pub cable-bits : (vs : List ℕ) → Under 2 (cableMessage vs)
 cable-bits vs = all-append (λ b. b < 2) (bitsOf 6 vs) (replicate 6 0) (bitsOf-under 6 vs) (bits-under 6 0)
 
-pub cable-remainder : (vs : List ℕ) (r : ℕ) → r ≡ cable .check vs → IsRemainder 6 0x43 (cableMessage vs) r
+pub cable-remainder : (vs : List ℕ) (r : ℕ) → r ≡ cable .check vs → IsRemainder 6 0x43 (number 2 (cableMessage vs)) r
 cable-remainder vs r e =
-    subst (λ (n : ℕ). IsRemainder 6 0x43 (cableMessage vs) n) (sym e) (long-division 6 0x43 (omega arith) (omega arith) (cableMessage vs) (cable-bits vs))
+    subst (λ (n : ℕ). IsRemainder 6 0x43 (number 2 (cableMessage vs)) n) (sym e) (long-division 6 0x43 (omega arith) (omega arith) (cableMessage vs) (cable-bits vs))
 
 -- what a division by x^6 + x + 1 keeps
 pub cable-division : {d p r : ℕ} → d ≡ 6 → p ≡ 0x43 → r < 64 → (d ≤ 8) × ((2 ^ d ≤ p) × ((p < 2 * 2 ^ d) × ((r < 2 ^ d) × Unit {0})))

@@ -1,22 +1,23 @@
 -- Long division leaves the remainder, and nothing else is left. Assumes nothing.
 use mathlib.Core.Path.{_≡_, refl, ap, sym, _∙_}
 use mathlib.Core.Bool.{cond}
-use mathlib.Core.List.{List, [], _∷_}
-use mathlib.Core.Logic.{_⊎_, inl, inr, ⊎-elim}
-use Prim.Native.Nat.{ℕ, zero, suc, _+_, _*_, _/_, _^_, _<_, _≤_}
+use mathlib.Core.List.{List, [], _∷_, _++_}
+use Prim.Native.Nat.{ℕ, zero, suc, _+_, _-_, _*_, _/_, _^_, _<_, _≤_}
 use native.Mathlib.Omega.{arith}
 use native.Mathlib.Nat.{zero-mul, one-mul, div-eq-of-lt, lt-div-mul-add}
 use lib.Bits.{bitXor, xor-assoc, xor-comm, xor-self, xor-zero-r, xor-zero-l, xor-block, xor-shr, xor-lt}
 use lib.Dec.{ltb}
-use lib.ListN.{length}
+use lib.ListN.{length, replicate}
 use Rattle.std.proofs.shelf.Bits.{pow-pos}
+use Rattle.std.proofs.shelf.Lists.{length-append, length-replicate}
+use Rattle.std.proofs.shelf.Elements.{all-append}
 use Rattle.std.proofs.shelf.Tests.{cond-both}
 use Rattle.std.specs.shelf.Digits.{number, numberAfter, Under}
 use Rattle.line.specs.Division.{reduced, remainder, remainderAfter, product, productAfter, Leaves, IsRemainder}
 use Rattle.line.proofs.Dividing.{quotient-one, remainder-below}
 
 -- what is added twice goes away
-cancels : (a x k : ℕ) → bitXor (bitXor a k) (bitXor x k) ≡ bitXor a x
+pub cancels : (a x k : ℕ) → bitXor (bitXor a k) (bitXor x k) ≡ bitXor a x
 cancels a x k =
     xor-assoc a k (bitXor x k)
     ∙ ap (bitXor a) (ap (bitXor k) (xor-comm x k) ∙ sym (xor-assoc k k x) ∙ ap (λ z. bitXor z x) (xor-self k))
@@ -37,15 +38,15 @@ taken d p x =
     (λ e. (1, omega arith, ap (bitXor x) (sym (one-mul p))))
 
 divides : (d p s r v : ℕ) (bs : List ℕ) → Under 2 bs → v ≡ bitXor s r
-    → (qs : List ℕ) × Under 2 qs × (length qs ≡ length bs) × (numberAfter 2 v bs ≡ bitXor (productAfter p s qs) (remainderAfter d p r bs))
-divides d p s r v [] h e = ([], tt, refl, e)
+    → (qs : List ℕ) × Under 2 qs × (numberAfter 2 v bs ≡ bitXor (productAfter p s qs) (remainderAfter d p r bs))
+divides d p s r v [] h e = ([], tt, e)
 divides d p s r v (b ∷ bs) h e =
     let t = taken d p (2 * r + b) in
     let k = t .0 * p in
     let n : v * 2 + b ≡ bitXor (bitXor (s * 2) k) (reduced d p (2 * r + b)) =
     ap (λ m. m * 2 + b) e ∙ moved-up s r b (h .0) ∙ sym (cancels (s * 2) (2 * r + b) k) ∙ ap (bitXor (bitXor (s * 2) k)) (sym (t .2)) in
     let more = divides d p (bitXor (s * 2) k) (reduced d p (2 * r + b)) (v * 2 + b) bs (h .1) n in
-    (t .0 ∷ more .0, (t .1, more .1), ap suc (more .2), more .3)
+    (t .0 ∷ more .0, (t .1, more .1), more .2)
 
 -- what adds up to nothing is the same
 same : (a b : ℕ) → bitXor a b ≡ 0 → a ≡ b
@@ -61,13 +62,13 @@ differ-alike a b r s e =
     ∙ cancels s r b
     ∙ xor-comm s r
 
-interchange : (a b x y : ℕ) → bitXor (bitXor a b) (bitXor x y) ≡ bitXor (bitXor a x) (bitXor b y)
+pub interchange : (a b x y : ℕ) → bitXor (bitXor a b) (bitXor x y) ≡ bitXor (bitXor a x) (bitXor b y)
 interchange a b x y =
     xor-assoc a b (bitXor x y)
     ∙ ap (bitXor a) (sym (xor-assoc b x y) ∙ ap (λ z. bitXor z y) (xor-comm b x) ∙ xor-assoc x b y)
     ∙ sym (xor-assoc a x (bitXor b y))
 
-xor-doubled : (s t : ℕ) → bitXor (s * 2) (t * 2) ≡ bitXor s t * 2
+pub xor-doubled : (s t : ℕ) → bitXor (s * 2) (t * 2) ≡ bitXor s t * 2
 xor-doubled s t =
     let e : 2 * t + 0 ≡ t * 2 = omega arith in
     let f : bitXor s t * 2 + 0 ≡ bitXor s t * 2 = omega arith in
@@ -117,17 +118,36 @@ module _ (d p : ℕ) (lp : 2 ^ d ≤ p) (hp : p < 2 * 2 ^ d) where
   unfolding Multiple
   nothing h = refl
 
-  pub long-division : (message : List ℕ) → Under 2 message → IsRemainder d p message (remainder d p message)
+  -- zero bits in front change no product
+  padded : (k : ℕ) (qs : List ℕ) → product p (replicate k 0 ++ qs) ≡ product p qs
+  padded zero qs = refl
+  padded (suc k) qs = let e : bitXor (0 * 2) (0 * p) ≡ 0 = ap (bitXor 0) (zero-mul p) in ap (λ s. productAfter p s (replicate k 0 ++ qs)) e ∙ padded k qs
+
+  padding : (k : ℕ) → Under 2 (replicate k 0)
+  padding zero = tt
+  padding (suc k) = (omega arith, padding k)
+
+  multiples-any : (qs ws : List ℕ) → Under 2 qs → Under 2 ws → Multiple (bitXor (product p qs) (product p ws))
+  multiples-any qs ws hq hw =
+      let k = length ws - length qs in
+      let l = length qs - length ws in
+      let long : length (replicate k 0 ++ qs) ≡ length (replicate l 0 ++ ws) = simp (length-append, length-replicate) (omega arith) in
+      let m = multiples 0 0 (replicate k 0 ++ qs) (replicate l 0 ++ ws) (all-append (λ b. b < 2) (replicate k 0) qs (padding k) hq) (all-append (λ b. b < 2) (replicate l 0) ws (padding l) hw) long nothing in
+      rw (← padded k qs, ← padded l ws) m
+
+  -- two numbers that are left are the same
+  pub one-left : (message r s : ℕ) → Leaves d p message r → Leaves d p message s → r ≡ s
   unfolding Multiple
-  long-division message h =
-      let t = divides d p 0 0 0 message h refl in
-      let r = remainder d p message in
-      let small = remainder-below d p lp hp 0 message (pow-pos d) h in
-      record {
-        leaves = record { quotient = t .0; bits = t .1; size = t .2; whole = t .3; below = small };
-        only =
-            λ other l.
-            let e : bitXor (product p (l .quotient)) (product p (t .0)) ≡ bitXor other r = differ-alike (product p (l .quotient)) (product p (t .0)) other r (sym (l .whole) ∙ t .3) in
-            let m = multiples 0 0 (l .quotient) (t .0) (l .bits) (t .1) (l .size ∙ sym (t .2)) nothing in
-            same other r (sym e ∙ m (rw e (xor-lt d other r (l .below) small)));
-      }
+  one-left message r s l k =
+      let e : bitXor (product p (l .quotient)) (product p (k .quotient)) ≡ bitXor r s = differ-alike (product p (l .quotient)) (product p (k .quotient)) r s (sym (l .whole) ∙ k .whole) in
+      let m = multiples-any (l .quotient) (k .quotient) (l .bits) (k .bits) in
+      same r s (sym e ∙ m (rw e (xor-lt d r s (l .below) (k .below))))
+
+  pub is-remainder : (message r : ℕ) → Leaves d p message r → IsRemainder d p message r
+  is-remainder message r l = record { leaves = l; only = λ other k. one-left message other r k l }
+
+  -- long division finds it
+  pub long-division : (bs : List ℕ) → Under 2 bs → IsRemainder d p (number 2 bs) (remainder d p bs)
+  long-division bs h =
+      let t = divides d p 0 0 0 bs h refl in
+      is-remainder (number 2 bs) (remainder d p bs) (record { quotient = t .0; bits = t .1; whole = t .2; below = remainder-below d p lp hp 0 bs (pow-pos d) h })

@@ -1,13 +1,12 @@
 -- Division of polynomials over two elements. A polynomial is a number: its bit k is the factor of x^k, and bitXor adds.
--- A message is a row of bits, high bit first. Assumes nothing.
+-- Assumes nothing.
 use mathlib.Core.Path.{_≡_}
 use mathlib.Core.Bool.{cond}
 use mathlib.Core.List.{List, [], _∷_}
 use Prim.Native.Nat.{ℕ, _+_, _*_, _^_, _<_}
 use lib.Bits.{bitXor}
 use lib.Dec.{ltb}
-use lib.ListN.{length}
-use Rattle.std.specs.shelf.Digits.{number, Under}
+use Rattle.std.specs.shelf.Digits.{Under}
 
 -- Long division by a divisor of the degree: x, of that degree at most, less the divisor where it has that degree.
 unfoldable pub reduced : ℕ → ℕ → ℕ → ℕ
@@ -30,14 +29,13 @@ abbrev pub product : ℕ → List ℕ → ℕ
 product p bits = productAfter p 0 bits
 
 -- Some quotient times the divisor, plus r, is the message; and r is below the divisor's degree.
-pub record Leaves (degree divisor : ℕ) (message : List ℕ) (r : ℕ) : Type 0 where
+pub record Leaves (degree divisor message r : ℕ) : Type 0 where
   pub quotient : List ℕ
   pub bits : Under 2 quotient
-  pub size : length quotient ≡ length message
-  pub whole : number 2 message ≡ bitXor (product divisor quotient) r
+  pub whole : message ≡ bitXor (product divisor quotient) r
   pub below : r < 2 ^ degree
 
 -- r is the remainder: it is left, and nothing else is.
-pub record IsRemainder (degree divisor : ℕ) (message : List ℕ) (r : ℕ) : Type 0 where
+pub record IsRemainder (degree divisor message r : ℕ) : Type 0 where
   pub leaves : Leaves degree divisor message r
   pub only : (other : ℕ) → Leaves degree divisor message other → other ≡ r

@@ -2,12 +2,13 @@
 use mathlib.Core.Path.{_≡_}
 use mathlib.Core.Bool.{Bool, true, false, cond}
 use mathlib.Core.List.{List, [], _∷_, map}
-use Prim.Native.Nat.{ℕ, _*_, _/_, _%_, _<_}
+use Prim.Native.Nat.{ℕ, _*_, _/_, _%_, _^_, _<_}
 use lib.Bits.{bitXor}
 use lib.Dec.{eqb}
-use lib.ListN.{getD}
+use lib.ListN.{length, getD}
 use Rattle.std.specs.declared.option.Option.{Option}
 use Rattle.std.specs.declared.option.Option.the-variants.{None, Some}
+use Rattle.std.specs.shelf.Digits.{number}
 use Rattle.line.specs.declared.six_bit.SixBit.{SixBit}
 use Rattle.line.specs.Values.{numberOf}
 use Rattle.line.specs.Digits.{bitsOf}
@@ -40,6 +41,11 @@ registerAfter register (bit ∷ bits) = registerAfter (movedUp register bit) bit
 -- the register, all ones at first, after bytes that come high bit first
 abbrev pub registerOver : List ℕ → ℕ
 registerOver bytes = registerAfter 0xFF (bitsOf 8 bytes)
+
+-- What the register is the remainder of, by x^8 + x^7 + x^5 + x^2 + x: the bits with eight zero bits behind them, and all
+-- ones added to the first eight.
+abbrev pub radioMessage : List ℕ → ℕ
+radioMessage bits = bitXor (number 2 bits * 2 ^ 8) (0xFF * 2 ^ length bits)
 
 -- The check is the upper six bits of the register over the values' symbols.
 abbrev pub radio : LineCode

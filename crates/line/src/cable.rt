@@ -1,5 +1,6 @@
 // The cable line.
 ghost use mathlib.Core.Path.{_≡_};
+ghost use Rattle.std.specs.shelf.Digits.{number};
 ghost use Rattle.line.specs.Values.{numberOf, numbers};
 ghost use Rattle.line.specs.Division.{IsRemainder};
 ghost use Rattle.line.specs.Cable.{cable, cableMessage};
@@ -29,7 +30,7 @@ pub impl Line for Cable as CableLine {
 
     fn check(&self, values: &[SixBit]) -> SixBit
         ensures value { λ r. ⌜ numberOf r ≡ cable .check (numbers (now (values .entry))) ⌝ }
-        ensures remainder { λ r. ⌜ IsRemainder 6 0x43 (cableMessage (numbers (now (values .entry)))) (numberOf r) ⌝ }
+        ensures remainder { λ r. ⌜ IsRemainder 6 0x43 (number 2 (cableMessage (numbers (now (values .entry))))) (numberOf r) ⌝ }
     {
         let mut division = Division {
             degree: 6,

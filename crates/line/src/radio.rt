@@ -1,11 +1,13 @@
 // The radio line.
 ghost use mathlib.Core.Path.{_≡_};
-ghost use Prim.Native.Nat.{_/_, _≤_};
+ghost use mathlib.Core.List.{map};
+ghost use Prim.Native.Nat.{ℕ, _/_, _≤_};
 ghost use Rattle.std.specs.Options.{mapped};
-ghost use Rattle.line.specs.Values.{numberOf};
-ghost use Rattle.line.specs.Digits.{digits};
+ghost use Rattle.line.specs.Values.{numberOf, numbers};
+ghost use Rattle.line.specs.Digits.{digits, bitsOf};
+ghost use Rattle.line.specs.Division.{IsRemainder};
 ghost use Rattle.line.specs.Code.{Reads};
-ghost use Rattle.line.specs.Radio.{radioSymbol, movedUp, registerAfter, radio, ReadsBelow};
+ghost use Rattle.line.specs.Radio.{radioSymbol, movedUp, registerAfter, radioMessage, radio, ReadsBelow};
 use crate::Line;
 use crate::six_bit::SixBit;
 
@@ -155,7 +157,10 @@ pub impl Line for Radio as RadioLine {
         self.looked_up(byte)
     }
 
-    fn check(&self, values: &[SixBit]) -> SixBit {
+    fn check(&self, values: &[SixBit]) -> SixBit
+        ensures value { λ r. ⌜ numberOf r ≡ radio .check (numbers (now (values .entry))) ⌝ }
+        ensures remainder { λ r. ⌜ ((register : ℕ) × IsRemainder 8 0x1A6 (radioMessage (bitsOf 8 (map radioSymbol (numbers (now (values .entry)))))) register × (numberOf r ≡ register / 4)) ⌝ }
+    {
         let mut register = 0xFF;
         for value in values {
             register = moved_through(register, symbol_of(*value));

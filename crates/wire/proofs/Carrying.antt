@@ -14,6 +14,7 @@ use Rattle.std.proofs.shelf.Ways.{tells}
 use Rattle.std.specs.Options.{valueOr, mapped}
 use Rattle.std.specs.declared.option.Option.{Option}
 use Rattle.std.specs.declared.option.Option.the-variants.{None, Some}
+use Rattle.std.specs.declared.result.Result.the-variants.{Ok}
 use Rattle.std.specs.shelf.Digits.{Under}
 use Rattle.line.specs.declared.six_bit.SixBit.{SixBit}
 use Rattle.line.specs.Values.{numbers}
@@ -22,7 +23,11 @@ use Rattle.line.proofs.Codes.{symbol-value, value-small, value-symbol}
 use Rattle.wire.specs.declared.fault.LineFault.the-variants.{Length, NoSymbol, Check}
 use Rattle.wire.specs.Frames.{frameLength, firstNoSymbol, orLater, valuesOf, checkOver, checkHolds, withCheck, bytesOf}
 use Rattle.wire.specs.declared.fault.CarryFault.the-variants.{Buffer, Line}
-use Rattle.wire.specs.Refusing.{orElse, unless, lineRefusal, carryRefusal, carried}
+use Rattle.wire.specs.declared.frame_values.FrameValues.{FrameValues}
+use Rattle.wire.specs.Values.{valuesIn}
+use Rattle.wire.specs.Calls.{Read, Written, Carried, CarriesBack}
+use Rattle.wire.specs.Refusing.{lineRefusal, carryRefusal, carried}
+use Rattle.refusal.specs.Outcomes.{unless, orElse}
 
 pub frame-least : (n : ℕ) → frameLength n ≡ true → 3 ≤ n
 frame-least n e = grind (arith, tells)
@@ -34,10 +39,8 @@ pub values-long : (vs : List SixBit) (n : ℕ) → length vs ≡ 48 → frameLen
 values-long vs n long e = let h = frame-most n e in rw (length-map, length-take-le n vs (omega arith))
 
 -- a frame's bytes written over the front of a buffer
-pub front-written : (code : LineCode) (vs : List SixBit) (n : ℕ) (was out : List ℕ) → length vs ≡ 48 → frameLength n ≡ true → out ≡ bytesOf code (numbers (take (n - 0) vs)) → out ++ postOf 0 (n - 0) was ≡ bytesOf code (numbers (take n vs)) ++ drop (length (numbers (take n vs))) was
-front-written code vs n was out long e eo =
-    let z : n - 0 ≡ n = omega arith in
-    rw (values-long vs n long e, eo, z)
+pub front-written : (code : LineCode) (vs : List SixBit) (n : ℕ) (was out : List ℕ) → length vs ≡ 48 → frameLength n ≡ true → 48 ≤ length was → out ≡ bytesOf code (numbers (take (n - 0) vs)) → Written code (numbers (take n vs)) was (out ++ postOf 0 (n - 0) was) (Ok n)
+front-written code vs n was out long e h eo = let z : n - 0 ≡ n = omega arith in (h, sym (values-long vs n long e), rw (eo, z))
 
 -- of two refusals none applies only where neither does
 neither : {F : Type 0} (x y : Option F) → orElse x y ≡ None → (x ≡ None) × (y ≡ None)
@@ -137,10 +140,19 @@ module _ (a b : LineCode) (lawful : Lawful b) (bytes : List ℕ) (s : Sound a by
       ap (bytesOf a) (written-reads b lawful vs (values-under a bytes)) ∙ ap (map (a .symbol)) restored ∙ bytes-again a 0 bytes (s .symbols)
 
   -- the same of the front of a buffer that they were written to
-  pub front-back : (n : ℕ) (out tail : List ℕ) → n ≡ length bytes → out ≡ carried a b bytes ++ tail → (lineRefusal b (take n out) ≡ None) × (carried b a (take n out) ≡ bytes)
+  front-back : (n : ℕ) (out tail : List ℕ) → n ≡ length bytes → out ≡ carried a b bytes ++ tail → CarriesBack a b bytes out (Ok n)
   front-back n out tail en eo =
       let front : take n out ≡ carried a b bytes = ap (take n) eo ∙ take-at (carried a b bytes) tail n (carried-long a b bytes ∙ sym en) in
       (ap (lineRefusal b) front ∙ carried-accepted, ap (carried b a) front ∙ carried-back)
 
-pub carry-accepted : (code : LineCode) (room : ℕ) (bytes : List ℕ) → 48 ≤ room → lineRefusal code bytes ≡ None → carryRefusal code room bytes ≡ None
+carry-accepted : (code : LineCode) (room : ℕ) (bytes : List ℕ) → 48 ≤ room → lineRefusal code bytes ≡ None → carryRefusal code room bytes ≡ None
 carry-accepted code room bytes h e = ap (λ t. orElse (unless t (Buffer (record {}))) (mapped Line (lineRefusal code bytes))) (le-leb 48 room h) ∙ ap (mapped Line) e
+
+-- reading on one line and writing on another is carrying
+pub read-written : (a b : LineCode) (frame was out : List ℕ) (f : FrameValues) (n : ℕ) → Read a frame (Ok f) → Written b (valuesIn f) was out (Ok n) → Carried a b frame was out (Ok n)
+read-written a b frame was out f n r w =
+    let count : n ≡ length frame = w .1 ∙ ap length (r .1) ∙ length-map frame _ in
+    (carry-accepted a (length was) frame (w .0) (r .0), count, w .2 ∙ ap (λ vs. bytesOf b vs ++ drop n was) (r .1))
+
+pub carries-back : (a b : LineCode) → Lawful b → (frame was out : List ℕ) (f : FrameValues) (n : ℕ) → Read a frame (Ok f) → Carried a b frame was out (Ok n) → CarriesBack a b frame out (Ok n)
+carries-back a b lawful frame was out f n r c = front-back a b lawful frame (sound a frame (r .0)) n out (drop n was) (c .1) (c .2)

@@ -5,7 +5,7 @@ use Prim.Native.Nat.{ℕ, _+_, _-_, _<_, _≤_}
 use native.Mathlib.Omega.{arith}
 use lib.Dec.{eqb}
 use lib.ListN.{length, getD, take, drop, set}
-use Rattle.std.proofs.shelf.Lists.{drop-more, drop-all, take-all, take-more-set, map-set, length-map, drop-map, take-rest}
+use Rattle.std.proofs.shelf.Lists.{drop-more, drop-all, take-all, take-at, take-more-set, map-set, length-map, drop-map, take-rest}
 use Rattle.std.specs.Options.{valueOr}
 use Rattle.std.specs.declared.option.Option.the-variants.{None, Some}
 use Rattle.line.specs.declared.six_bit.SixBit.{SixBit}
@@ -49,3 +49,7 @@ pub check-compared : (code : LineCode) (vs : List SixBit) (v : SixBit) (n m : �
 check-compared code vs v n m h en ev em =
     let a : n ≡ getD (numbers vs) 2 0 = en ∙ number-at vs v 2 (omega arith) ev in
     ap (λ x. eqb x m) a ∙ ap (eqb (getD (numbers vs) 2 0)) (em ∙ ap (code .check) (behind-check vs))
+
+-- values put down at the front of others
+pub front-values : (vs rest : List SixBit) (n : ℕ) (ns : List ℕ) → length vs ≡ n → numbers vs ≡ ns → numbers (take n (vs ++ rest)) ≡ ns
+front-values vs rest n ns long e = ap numbers (take-at vs rest n long) ∙ e

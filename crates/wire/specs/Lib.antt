@@ -1,3 +1,4 @@
 pub mod Frames
 pub mod Values
 pub mod Refusing
+pub mod Calls

@@ -1,32 +1,21 @@
 -- Which refusal a frame gets, and what a host sees of it. Assumes nothing.
-use mathlib.Core.Bool.{Bool, true, false}
 use mathlib.Core.List.{List}
 use Prim.Native.Nat.{ℕ}
 use lib.Dec.{leb}
 use lib.ListN.{length}
 use Rattle.std.specs.Options.{mapped}
 use Rattle.std.specs.declared.option.Option.{Option}
-use Rattle.std.specs.declared.option.Option.the-variants.{None, Some}
 use Rattle.refusal.specs.declared.Layer.the-variants.{Line as line-layer}
 use Rattle.refusal.specs.declared.Refusal.{Refusal}
 use Rattle.refusal.specs.declared.ShortBuffer.{ShortBuffer}
 use Rattle.refusal.specs.Refusals.{shortBuffer}
+use Rattle.refusal.specs.Outcomes.{unless, orElse}
 use Rattle.line.specs.Code.{LineCode}
 use Rattle.wire.specs.declared.fault.LineFault.{LineFault}
 use Rattle.wire.specs.declared.fault.LineFault.the-variants.{Length, NoSymbol, Check}
 use Rattle.wire.specs.declared.fault.CarryFault.{CarryFault}
 use Rattle.wire.specs.declared.fault.CarryFault.the-variants.{Buffer, Line}
 use Rattle.wire.specs.Frames.{frameLength, firstNoSymbol, valuesOf, checkHolds, bytesOf}
-
--- the first of two refusals
-abbrev pub orElse : {F : Type 0} → Option F → Option F → Option F
-orElse None later = later
-orElse (Some fault) later = Some fault
-
--- a fault, unless the test holds
-abbrev pub unless : {F : Type 0} → Bool → F → Option F
-unless true fault = None
-unless false fault = Some fault
 
 -- The length, a byte that is no symbol, the check: the first that applies.
 abbrev pub lineRefusal : LineCode → List ℕ → Option LineFault

@@ -4,12 +4,11 @@ ghost use mathlib.Core.Bool.{true};
 ghost use Prim.Native.Nat.{_≤_};
 ghost use lib.ListN.{length};
 ghost use Rattle.std.specs.Options.{mapped};
-ghost use Rattle.std.specs.Results.{Cases};
-ghost use Rattle.std.specs.declared.option.Option.the-variants.{None, Some};
+ghost use Rattle.refusal.specs.Outcomes.{Outcome};
 ghost use Rattle.line.specs.Values.{numbers};
 ghost use Rattle.wire.specs.Frames.{frameLength, firstNoSymbol, valuesOf, checkHolds};
-ghost use Rattle.wire.specs.Values.{valuesIn};
 ghost use Rattle.wire.specs.Refusing.{lineRefusal};
+ghost use Rattle.wire.specs.Calls.{Read};
 ghost use Rattle.wire.specs.declared.fault.LineFault.the-variants.{NoSymbol as no-symbol};
 use crate::fault::LineFault;
 use crate::frame_values::FrameValues;
@@ -25,7 +24,7 @@ fn is_frame_length(count: usize) -> bool
 // Reads each symbol, up to the first byte that is none.
 fn decode<L: Line>(line: &L, frame: &[u8], values: &mut [SixBit]) -> Result<(), LineFault>
     requires { ⌜ length (now values) ≡ length (now frame) ⌝ ∗ ⌜ length (now frame) ≤ 48 ⌝ }
-    ensures { λ r. ⌜ Cases r (λ _. (firstNoSymbol (L·Line .code (now (line .entry))) 0 (now (frame .entry)) ≡ None) × (numbers (now (values .exit)) ≡ valuesOf (L·Line .code (now (line .entry))) (now (frame .entry)))) (λ e. Some e ≡ mapped no-symbol (firstNoSymbol (L·Line .code (now (line .entry))) 0 (now (frame .entry)))) ⌝ }
+    ensures { λ r. ⌜ Outcome (mapped no-symbol (firstNoSymbol (L·Line .code (now (line .entry))) 0 (now (frame .entry)))) (λ _. numbers (now (values .exit)) ≡ valuesOf (L·Line .code (now (line .entry))) (now (frame .entry))) r ⌝ }
 {
     for i in 0..frame.len() {
         match line.value(frame[i]) {
@@ -46,7 +45,7 @@ fn check_holds<L: Line>(line: &L, values: &[SixBit]) -> bool
 // Reads each symbol, and holds the check to the values behind it.
 fn read_into<L: Line>(line: &L, frame: &[u8], values: &mut [SixBit]) -> Result<(), LineFault>
     requires { ⌜ length (now values) ≡ length (now frame) ⌝ ∗ ⌜ frameLength (length (now frame)) ≡ true ⌝ }
-    ensures { λ r. ⌜ Cases r (λ _. (lineRefusal (L·Line .code (now (line .entry))) (now (frame .entry)) ≡ None) × (numbers (now (values .exit)) ≡ valuesOf (L·Line .code (now (line .entry))) (now (frame .entry)))) (λ e. lineRefusal (L·Line .code (now (line .entry))) (now (frame .entry)) ≡ Some e) ⌝ }
+    ensures { λ r. ⌜ Outcome (lineRefusal (L·Line .code (now (line .entry))) (now (frame .entry))) (λ _. numbers (now (values .exit)) ≡ valuesOf (L·Line .code (now (line .entry))) (now (frame .entry))) r ⌝ }
 {
     decode(line, frame, values)?;
     if !check_holds(line, values) {
@@ -64,7 +63,7 @@ fn blank() -> [SixBit; 48]
 impl FrameValues {
     // Reads the values of a frame's bytes, or tells the first fault that applies.
     pub fn read<L: Line>(line: &L, frame: &[u8]) -> Result<FrameValues, LineFault>
-        ensures { λ r. ⌜ Cases r (λ f. (lineRefusal (L·Line .code (now (line .entry))) (now (frame .entry)) ≡ None) × (valuesIn f ≡ valuesOf (L·Line .code (now (line .entry))) (now (frame .entry)))) (λ e. lineRefusal (L·Line .code (now (line .entry))) (now (frame .entry)) ≡ Some e) ⌝ }
+        ensures { λ r. ⌜ Read (L·Line .code (now (line .entry))) (now (frame .entry)) r ⌝ }
     {
         let count = frame.len();
         if !is_frame_length(count) {

@@ -1,13 +1,12 @@
 // A frame's values written as bytes.
 ghost use mathlib.Core.Path.{_≡_};
-ghost use mathlib.Core.List.{_++_, map};
-ghost use mathlib.Core.Bool.{cond};
-ghost use Prim.Native.Nat.{_<_, _≤_};
-ghost use lib.ListN.{length, drop};
-ghost use Rattle.std.specs.Results.{Cases, isOk};
+ghost use mathlib.Core.List.{map};
+ghost use Prim.Native.Nat.{_≤_};
+ghost use lib.ListN.{length};
 ghost use Rattle.line.specs.Values.{numbers};
 ghost use Rattle.wire.specs.Frames.{bytesOf};
 ghost use Rattle.wire.specs.Values.{valuesIn};
+ghost use Rattle.wire.specs.Calls.{Written};
 use crate::frame_values::FrameValues;
 use line::Line;
 use line::SixBit;
@@ -37,8 +36,7 @@ fn encode<L: Line>(line: &L, values: &[SixBit], out: &mut [u8])
 impl FrameValues {
     // Writes the frame's bytes at the front of a buffer, with the line's own check, and tells how many they are.
     pub fn write<L: Line>(&self, line: &L, out: &mut [u8]) -> Result<usize, ShortBuffer>
-        ensures answer { λ r. ⌜ Cases r (λ n. (48 ≤ length (now (out .entry))) × (n ≡ length (valuesIn (now (self .entry))))) (λ _. length (now (out .entry)) < 48) ⌝ }
-        ensures bytes { λ r. ⌜ now (out .exit) ≡ cond (isOk r) (bytesOf (L·Line .code (now (line .entry))) (valuesIn (now (self .entry))) ++ drop (length (valuesIn (now (self .entry)))) (now (out .entry))) (now (out .entry)) ⌝ }
+        ensures { λ r. ⌜ Written (L·Line .code (now (line .entry))) (valuesIn (now (self .entry))) (now (out .entry)) (now (out .exit)) r ⌝ }
     {
         if out.len() < FRAME_ROOM {
             return Err(ShortBuffer);

@@ -15,7 +15,7 @@ returns-in-None g c =
     let lawful = g .L·Line·met .lawful (c .args .line .now) in
     let bytes = c .args .frame .now in
     let i = c .loop-i .i in
-    ap (mapped NoSymbol) (sym (sym (c .loop-i .inv .0) ∙ no-symbol-here code bytes i (omega arith) (read-value code lawful (getD bytes i 0) None (c .in-None .ensures tt))))
+    ap (mapped NoSymbol) (sym (c .loop-i .inv .0) ∙ no-symbol-here code bytes i (omega arith) (read-value code lawful (getD bytes i 0) None (c .in-None .ensures tt)))
 
 pub loop-i-again : need.loop-i-again
 loop-i-again g c =
@@ -34,4 +34,4 @@ returns g c =
     let code = g .L·Line .code (c .args .line .now) in
     let bytes = c .args .frame .now in
     let i = c .loop-i .i in
-    (sym (c .loop-i .inv .0) ∙ symbols-all code bytes i (omega arith), values-all code bytes i (c .loop-i .values) _ (omega arith) (omega arith) (c .loop-i .inv .1))
+    (ap (mapped NoSymbol) (sym (c .loop-i .inv .0) ∙ symbols-all code bytes i (omega arith)), values-all code bytes i (c .loop-i .values) _ (omega arith) (omega arith) (c .loop-i .inv .1))

@@ -1,12 +1,9 @@
-use mathlib.Core.Path.{_≡_, _∙_, ap}
-use lib.ListN.{length}
 use borrow.Author.Needs.{needs}
-use Rattle.std.proofs.shelf.Lists.{take-at}
-use Rattle.line.specs.Values.{numbers}
+use lib.ListN.{length}
+use Rattle.wire.proofs.Reading.{front-values}
 use Rattle.wire.proofs.frame_values.FrameValues.read.Needs as need
 
 pub returns : need.returns
 returns g c =
     let read = c .in-Continue-read-into .ensures tt in
-    let long : length (c .read-into .last .values) ≡ length (c .args .frame .now) = search needs in
-    (read .0, ap numbers (take-at (c .read-into .last .values) _ (length (c .args .frame .now)) long) ∙ read .1)
+    (read .0, front-values (c .read-into .last .values) _ (length (c .args .frame .now)) _ (search needs) (read .1))

@@ -1,11 +1,10 @@
 -- What the bridge prints for a line of its input. Assumes nothing.
-use mathlib.Core.Bool.{Bool, cond, not}
+use mathlib.Core.Bool.{cond}
 use mathlib.Core.List.{List, [], _∷_, _++_}
 use Prim.Native.Nat.{ℕ, _+_, _-_, _/_, _%_}
 use lib.Dec.{ltb, eqb}
 use lib.ListN.{length, getD, take}
 use Rattle.std.specs.Joined.{joined}
-use Rattle.std.specs.Options.{isSome}
 use Rattle.std.specs.declared.option.Option.{Option}
 use Rattle.std.specs.declared.option.Option.the-variants.{None, Some}
 use Rattle.refusal.specs.Refusals.{textOf}
@@ -29,6 +28,7 @@ hexPair byte = hexDigit (byte / 16) ∷ hexDigit (byte % 16) ∷ []
 abbrev pub refusedFor : List ℕ → Option CarryFault
 refusedFor frame = carryRefusal cable 48 frame
 
+-- what is told of a frame with this refusal, or with none
 abbrev pub textBy : Option CarryFault → List ℕ → List ℕ
 textBy None frame = joined hexPair (carried cable radio frame)
 textBy (Some fault) frame = textOf (carryRefused fault)

@@ -1,6 +1,5 @@
 -- What long division keeps: what is left has a lower degree than the divisor. Assumes nothing.
 use mathlib.Core.Path.{_≡_, refl, ap, sym, _∙_}
-use mathlib.Core.Bool.{cond}
 use mathlib.Core.List.{List, [], _∷_, _++_, append-assoc}
 use Prim.Native.Nat.{ℕ, zero, suc, _+_, _*_, _/_, _-_, _%_, _^_, _<_, _≤_}
 use native.Mathlib.Omega.{arith}

@@ -3,10 +3,10 @@ use mathlib.Core.Path.{_≡_, refl, ap, sym, _∙_, subst}
 use mathlib.Core.Bool.{Bool, true, cond}
 use mathlib.Core.List.{List, [], _∷_, _++_, map}
 use mathlib.Core.Logic.{_≢_}
-use Prim.Native.Nat.{ℕ, zero, suc, _+_, _*_, _-_, _/_, _%_, _^_, _<_, _≤_}
+use Prim.Native.Nat.{ℕ, suc, _+_, _*_, _-_, _/_, _%_, _^_, _<_, _≤_}
 use native.Mathlib.Omega.{arith}
 use native.Mathlib.Numerals.{add-one}
-use lib.Bits.{bitXor, bitAnd}
+use lib.Bits.{bitAnd}
 use lib.Dec.{ltb, eqb}
 use lib.ListN.{length, drop, getD, set, replicate}
 use Rattle.std.specs.Options.{mapped}
@@ -22,7 +22,7 @@ use Rattle.line.specs.Code.{Reads, valueBelow}
 use Rattle.line.specs.Radio.{radioSymbols, radioSymbol, movedUp, registerAfter, registerOver, radio, agrees, ReadsBelow}
 use Rattle.line.proofs.Tables.{at}
 use Rattle.line.proofs.Codes.{searched}
-use Rattle.line.proofs.Lines.{number-at}
+use Rattle.line.proofs.Numbers.{number-at}
 use Rattle.line.proofs.Dividing.{digits-step, bit-at}
 
 -- the place of the first x

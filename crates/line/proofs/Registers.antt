@@ -1,14 +1,13 @@
 -- The radio line's register is a remainder. Assumes nothing.
 use mathlib.Core.Path.{_≡_, refl, ap, sym, _∙_}
-use mathlib.Core.Bool.{cond}
 use mathlib.Core.List.{List, [], _∷_}
-use Prim.Native.Nat.{ℕ, zero, suc, _+_, _*_, _/_, _%_, _^_, _<_, _≤_}
+use Prim.Native.Nat.{ℕ, zero, suc, _+_, _*_, _/_, _%_, _^_, _<_}
 use native.Mathlib.Omega.{arith}
-use native.Mathlib.Nat.{zero-mul, one-mul, mul-assoc}
+use native.Mathlib.Nat.{mul-assoc}
 use lib.Bits.{bitXor, xor-assoc, xor-self, xor-zero-r, xor-block, xor-shifted}
 use lib.Dec.{eqb}
 use lib.ListN.{length}
-use Rattle.std.proofs.shelf.Bits.{pow-add, mod-below, shr-split}
+use Rattle.std.proofs.shelf.Bits.{pow-add, mod-below}
 use Rattle.std.proofs.shelf.Tests.{cond-both, eqb-true, eqb-false}
 use Rattle.std.specs.shelf.Digits.{number, numberAfter, Under}
 use Rattle.line.specs.Division.{productAfter, IsRemainder}

@@ -8,6 +8,7 @@ use Rattle.std.specs.declared.option.Option.{Option}
 use Rattle.std.specs.declared.option.Option.the-variants.{None, Some}
 use Rattle.std.specs.shelf.Digits.{Under}
 
+-- A line's meaning, over plain numbers.
 pub record LineCode : Type 0 where
   pub symbol : ℕ → ℕ
   pub check : List ℕ → ℕ

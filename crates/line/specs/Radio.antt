@@ -51,6 +51,7 @@ radioMessage bits = bitXor (number 2 bits * 2 ^ 8) (0xFF * 2 ^ length bits)
 abbrev pub radio : LineCode
 radio = record { symbol = radioSymbol; check = λ vs. registerOver (map radioSymbol vs) / 4 }
 
+-- what a place of a table tells is this value, or none where there is none
 abbrev pub agrees : Option SixBit → Option ℕ → Bool
 agrees None None = true
 agrees None (Some n) = false

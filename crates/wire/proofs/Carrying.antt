@@ -1,10 +1,9 @@
 -- What is written on a line is read from it again, and a frame that was carried comes back. Assumes nothing.
-use mathlib.Core.Path.{_≡_, refl, ap, sym, _∙_, subst}
+use mathlib.Core.Path.{_≡_, refl, ap, sym, _∙_}
 use mathlib.Core.Bool.{Bool, true, false}
 use mathlib.Core.List.{List, [], _∷_, _++_, map}
 use Prim.Native.Nat.{ℕ, _+_, _-_, _<_, _≤_}
 use native.Mathlib.Omega.{arith}
-use lib.Dec.{eqb}
 use borrow.Rule.Slice.PartMut.{postOf}
 use lib.ListN.{length, getD, take, drop, set, length-set}
 use Rattle.std.proofs.shelf.Lists.{length-map, length-take-le, getD-set-same, drop-set-lt, set-set, set-getD, take-at}

@@ -1,6 +1,6 @@
 -- The steps of reading a frame's symbols. Assumes nothing.
-use mathlib.Core.Path.{_≡_, refl, ap, sym, _∙_}
-use mathlib.Core.List.{List, [], _∷_, _++_, map, append-assoc, append-nil}
+use mathlib.Core.Path.{_≡_, ap, sym, _∙_}
+use mathlib.Core.List.{List, _∷_, _++_, append-assoc, append-nil}
 use Prim.Native.Nat.{ℕ, _+_, _-_, _<_, _≤_}
 use native.Mathlib.Omega.{arith}
 use lib.Dec.{eqb}
@@ -11,7 +11,7 @@ use Rattle.std.specs.declared.option.Option.the-variants.{None, Some}
 use Rattle.line.specs.declared.six_bit.SixBit.{SixBit}
 use Rattle.line.specs.Values.{numberOf, numbers}
 use Rattle.line.specs.Code.{LineCode, valueOf}
-use Rattle.line.proofs.Lines.{number-at}
+use Rattle.line.proofs.Numbers.{number-at}
 use Rattle.wire.specs.Frames.{firstNoSymbol, valuesOf, checkHolds}
 
 module _ (code : LineCode) (bytes : List ℕ) (i : ℕ) where

@@ -1,14 +1,13 @@
 -- The steps of writing a frame's symbols. Assumes nothing.
-use mathlib.Core.Path.{_≡_, refl, ap, sym, _∙_}
+use mathlib.Core.Path.{_≡_, ap, sym, _∙_}
 use mathlib.Core.List.{List, [], _∷_, _++_, map}
 use Prim.Native.Nat.{ℕ, _+_, _-_, _<_, _≤_}
-use native.Mathlib.Omega.{arith}
 use lib.ListN.{length, getD, take, drop, set}
 use Rattle.std.proofs.shelf.Lists.{take-all, take-more, take-more-set, map-set, length-map, getD-map}
 use Rattle.line.specs.declared.six_bit.SixBit.{SixBit}
 use Rattle.line.specs.Values.{numberOf, numbers}
 use Rattle.line.specs.Code.{LineCode}
-use Rattle.line.proofs.Lines.{number-at}
+use Rattle.line.proofs.Numbers.{number-at}
 use Rattle.wire.specs.Frames.{bytesOf}
 use Rattle.wire.proofs.Reading.{behind-check}
 

@@ -7,7 +7,6 @@ use Rattle.std.specs.Options.{mapped}
 use Rattle.std.specs.declared.option.Option.{Option}
 use Rattle.refusal.specs.declared.Layer.the-variants.{Line as line-layer}
 use Rattle.refusal.specs.declared.Refusal.{Refusal}
-use Rattle.refusal.specs.declared.ShortBuffer.{ShortBuffer}
 use Rattle.refusal.specs.Refusals.{shortBuffer}
 use Rattle.refusal.specs.Outcomes.{unless, orElse}
 use Rattle.line.specs.Code.{LineCode}

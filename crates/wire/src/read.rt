@@ -8,6 +8,7 @@ ghost use Rattle.refusal.specs.Outcomes.{Outcome};
 ghost use Rattle.line.specs.Values.{numbers};
 ghost use Rattle.wire.specs.Frames.{frameLength, firstNoSymbol, valuesOf, checkHolds};
 ghost use Rattle.wire.specs.Refusing.{lineRefusal};
+ghost use Rattle.wire.specs.Values.{valuesIn};
 ghost use Rattle.wire.specs.Calls.{Read};
 ghost use Rattle.wire.specs.declared.fault.LineFault.the-variants.{NoSymbol as no-symbol};
 use crate::fault::LineFault;
@@ -72,5 +73,11 @@ impl FrameValues {
         let mut values = blank();
         read_into(line, frame, &mut values[0..count])?;
         Ok(FrameValues { values, count })
+    }
+
+    pub fn as_slice(&self) -> &[SixBit]
+        ensures { λ r. ⌜ numbers (now r) ≡ valuesIn (now (self .entry)) ⌝ }
+    {
+        &self.values[0..self.count]
     }
 }

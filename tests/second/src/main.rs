@@ -1,29 +1,47 @@
-//! A second implementation, written from docs/PROTOCOL.md and sharing nothing with the crates: it makes the
-//! files that the programs are run on and what they must print.
+//! A second implementation, written from docs/PROTOCOL.md and sharing nothing with the crates. It makes the files
+//! that the programs are run on and those with what they must print. Run from the repository's root:
 //!
-//!     second vectors [SEED]    writes them under crates/, from the repository's root
+//!     second write [SEED]    write the files
+//!     second check           fail unless the files are those of the seed below
 
 mod bridge;
 mod line;
 mod random;
 
 use std::error::Error;
+use std::fs;
 
 const SEED: u64 = 20;
 
 fn main() -> Result<(), Box<dyn Error>> {
     let words: Vec<String> = std::env::args().skip(1).collect();
     match words.iter().map(String::as_str).collect::<Vec<_>>()[..] {
-        ["vectors"] => write_vectors(SEED),
-        ["vectors", seed] => write_vectors(seed.parse()?),
-        _ => Err("usage: second vectors [SEED]".into()),
+        ["write"] => write(SEED),
+        ["write", seed] => write(seed.parse()?),
+        ["check"] => check(),
+        _ => Err("usage: second write [SEED] | second check".into()),
     }
 }
 
-fn write_vectors(seed: u64) -> Result<(), Box<dyn Error>> {
+/// Each file with its bytes.
+fn files(seed: u64) -> Vec<(&'static str, Vec<u8>)> {
     println!("vectors of seed {seed}");
     let (stdin, stdout) = bridge::vectors(seed);
-    std::fs::write("crates/bridge/stdin", stdin)?;
-    std::fs::write("crates/bridge/stdout", stdout)?;
+    vec![("crates/bridge/stdin", stdin), ("crates/bridge/stdout", stdout)]
+}
+
+fn write(seed: u64) -> Result<(), Box<dyn Error>> {
+    for (path, bytes) in files(seed) {
+        fs::write(path, bytes)?;
+    }
+    Ok(())
+}
+
+fn check() -> Result<(), Box<dyn Error>> {
+    for (path, bytes) in files(SEED) {
+        if fs::read(path)? != bytes {
+            return Err(format!("{path} is not what the second implementation makes").into());
+        }
+    }
     Ok(())
 }

@@ -1,12 +1,9 @@
-use mathlib.Core.Path.{_≡_, _∙_, sym, ap, subst}
-use mathlib.Core.List.{_++_}
+use mathlib.Core.Path.{_≡_, _∙_, sym, subst}
 use Prim.Native.Nat.{ℕ, _<_}
 use native.Mathlib.Omega.{arith}
-use lib.ListN.{replicate}
-use Rattle.line.specs.Values.{numbers, numberOf}
-use Rattle.line.specs.Cable.{cable, cableMessage}
-use Rattle.line.specs.Division.{IsRemainder}
-use Rattle.line.proofs.Lines.{cable-division, cable-step, cable-rest, cable-end, cable-remainder}
+use Rattle.line.specs.Values.{numbers}
+use Rattle.line.specs.Cable.{cable}
+use Rattle.line.proofs.Cables.{cable-division, cable-step, cable-rest, cable-end, cable-remainder}
 use Rattle.line.proofs.cable.CableLine.check.Needs as need
 
 pub ghost-division : need.ghost-division

@@ -1,7 +1,7 @@
 use native.Mathlib.Omega.{arith}
 use Rattle.line.specs.Cable.{cableMessage}
 use Rattle.line.proofs.Dividing.{remainder-below}
-use Rattle.line.proofs.Lines.{cable-bits}
+use Rattle.line.proofs.Cables.{cable-bits}
 use Rattle.line.proofs.cable.CableLine.the-impl.Needs as need
 
 pub lawful-law : need.lawful-law

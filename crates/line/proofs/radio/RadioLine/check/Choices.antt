@@ -1,6 +1,5 @@
 use mathlib.Core.Path.{_≡_}
 use mathlib.Core.List.{map}
-use Prim.Native.Nat.{_<_}
 use lib.ListN.{drop}
 use Rattle.line.specs.Values.{numbers}
 use Rattle.line.specs.Digits.{bitsOf}

@@ -1,24 +1,21 @@
 -- The cable line's message, and what a loop over values leaves of it. Assumes nothing.
-use mathlib.Core.Path.{_≡_, refl, ap, sym, _∙_, subst}
-use mathlib.Core.List.{List, [], _∷_, _++_, map}
+use mathlib.Core.Path.{_≡_, ap, sym, _∙_, subst}
+use mathlib.Core.List.{List, _++_}
 use Prim.Native.Nat.{ℕ, _+_, _*_, _^_, _<_, _≤_}
 use native.Mathlib.Omega.{arith}
 use lib.ListN.{length, drop, getD, replicate}
 use Rattle.std.proofs.shelf.Elements.{all-append}
-use Rattle.std.proofs.shelf.Lists.{getD-map, length-map, drop-all, getD-read}
+use Rattle.std.proofs.shelf.Lists.{length-map, drop-all}
 use Rattle.std.specs.shelf.Digits.{number, Under}
 use Rattle.line.specs.declared.six_bit.SixBit.{SixBit}
 use Rattle.line.specs.declared.division.Division.{Division}
 use Rattle.line.specs.Values.{numberOf, numbers}
 use Rattle.line.specs.Digits.{digits, bitsOf}
-use Rattle.line.specs.Division.{remainder, remainderAfter, IsRemainder}
+use Rattle.line.specs.Division.{remainderAfter, IsRemainder}
 use Rattle.line.specs.Cable.{cable, cableMessage}
 use Rattle.line.proofs.Dividing.{bits-under, bitsOf-under, divided-more}
+use Rattle.line.proofs.Numbers.{number-at}
 use Rattle.line.proofs.Quotient.{long-division}
-
--- the number of the value that a loop reads at i
-pub number-at : (vs : List SixBit) (v : SixBit) (i : ℕ) → i < length vs → v ≡ getD vs i v → numberOf v ≡ getD (numbers vs) i 0
-number-at vs v i h e = ap numberOf e ∙ sym (getD-map numberOf vs i v 0 h)
 
 pub cable-bits : (vs : List ℕ) → Under 2 (cableMessage vs)
 cable-bits vs = all-append (λ b. b < 2) (bitsOf 6 vs) (replicate 6 0) (bitsOf-under 6 vs) (bits-under 6 0)

@@ -11,9 +11,9 @@ use Rattle.line.specs.declared.six_bit.SixBit.{SixBit}
 use Rattle.line.specs.declared.division.Division.{Division}
 use Rattle.line.specs.Values.{numberOf, numbers}
 use Rattle.line.specs.Digits.{digits, bitsOf}
-use Rattle.line.specs.Division.{remainderAfter, IsRemainder}
+use Rattle.line.specs.Division.{reduced, remainderAfter, IsRemainder}
 use Rattle.line.specs.Cable.{cable, cableMessage}
-use Rattle.line.proofs.Dividing.{bits-under, bitsOf-under, divided-more}
+use Rattle.line.proofs.Folds.{bits-under, bitsOf-under, number-more}
 use Rattle.line.proofs.Numbers.{number-at}
 use Rattle.line.proofs.Quotient.{long-division}
 
@@ -36,7 +36,7 @@ pub cable-step : (vs : List SixBit) (v : SixBit) (i : ℕ) (rest rest′ : ℕ) 
     → rest′ ≡ remainderAfter d p rest (digits 2 d (numberOf v))
     → remainderAfter 6 0x43 rest′ (bitsOf 6 (drop (i + 1) (numbers vs)) ++ replicate 6 0) ≡ remainderAfter 6 0x43 rest (bitsOf 6 (drop i (numbers vs)) ++ replicate 6 0)
 cable-step vs v i rest rest′ {d} {p} h e ed ep er =
-    divided-more 6 0x43 (numbers vs) (replicate 6 0) i rest rest′ (rw length-map h)
+    number-more (λ left bit. reduced 6 0x43 (2 * left + bit)) 6 (numbers vs) (replicate 6 0) i rest rest′ (rw length-map h)
     (er ∙ ap (λ d. remainderAfter d p rest (digits 2 d (numberOf v))) ed ∙ ap (λ p. remainderAfter 6 p rest (digits 2 6 (numberOf v))) ep ∙ ap (λ n. remainderAfter 6 0x43 rest (digits 2 6 n)) (number-at vs v i h e))
 
 -- at the end the zero bits are left

@@ -1,4 +1,5 @@
 pub mod Codes
+pub mod Folds
 pub mod Dividing
 pub mod Quotient
 pub mod Numbers

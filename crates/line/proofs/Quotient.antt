@@ -11,8 +11,9 @@ use Rattle.std.proofs.shelf.Bits.{pow-pos}
 use Rattle.std.proofs.shelf.Lists.{length-append, length-replicate}
 use Rattle.std.proofs.shelf.Elements.{all-append}
 use Rattle.std.proofs.shelf.Tests.{cond-both}
+use Rattle.std.specs.Iters.{folded}
 use Rattle.std.specs.shelf.Digits.{number, numberAfter, Under}
-use Rattle.line.specs.Division.{reduced, remainder, remainderAfter, product, productAfter, Leaves, IsRemainder}
+use Rattle.line.specs.Division.{reduced, remainder, remainderAfter, product, Leaves, IsRemainder}
 use Rattle.line.proofs.Dividing.{quotient-one, remainder-below}
 
 -- what is added twice goes away
@@ -36,8 +37,12 @@ taken d p x =
     (λ e. (0, omega arith, sym (ap (bitXor x) (zero-mul p) ∙ xor-zero-r x)))
     (λ e. (1, omega arith, ap (bitXor x) (sym (one-mul p))))
 
+-- the product of a polynomial and bits that come behind a sum
+abbrev pub productFrom : ℕ → ℕ → List ℕ → ℕ
+productFrom p sum bits = folded (λ s bit. bitXor (s * 2) (bit * p)) sum bits
+
 divides : (d p s r v : ℕ) (bs : List ℕ) → Under 2 bs → v ≡ bitXor s r
-    → (qs : List ℕ) × Under 2 qs × (numberAfter 2 v bs ≡ bitXor (productAfter p s qs) (remainderAfter d p r bs))
+    → (qs : List ℕ) × Under 2 qs × (numberAfter 2 v bs ≡ bitXor (productFrom p s qs) (remainderAfter d p r bs))
 divides d p s r v [] h e = ([], tt, e)
 divides d p s r v (b ∷ bs) h e =
     let t = taken d p (2 * r + b) in
@@ -105,7 +110,7 @@ module _ (d p : ℕ) (lp : 2 ^ d ≤ p) (hp : p < 2 * 2 ^ d) where
   between z (suc zero) (suc (suc w)) hq hw m = absurd (omega arith)
 
   -- so the difference of two multiples is one
-  multiples : (s t : ℕ) (qs ws : List ℕ) → Under 2 qs → Under 2 ws → length qs ≡ length ws → Multiple (bitXor s t) → Multiple (bitXor (productAfter p s qs) (productAfter p t ws))
+  multiples : (s t : ℕ) (qs ws : List ℕ) → Under 2 qs → Under 2 ws → length qs ≡ length ws → Multiple (bitXor s t) → Multiple (bitXor (productFrom p s qs) (productFrom p t ws))
   multiples s t [] [] hq hw e m = m
   multiples s t [] (w ∷ ws) hq hw e m = absurd (omega arith)
   multiples s t (q ∷ qs) [] hq hw e m = absurd (omega arith)
@@ -120,7 +125,7 @@ module _ (d p : ℕ) (lp : 2 ^ d ≤ p) (hp : p < 2 * 2 ^ d) where
   -- zero bits in front change no product
   padded : (k : ℕ) (qs : List ℕ) → product p (replicate k 0 ++ qs) ≡ product p qs
   padded zero qs = refl
-  padded (suc k) qs = let e : bitXor (0 * 2) (0 * p) ≡ 0 = ap (bitXor 0) (zero-mul p) in ap (λ s. productAfter p s (replicate k 0 ++ qs)) e ∙ padded k qs
+  padded (suc k) qs = let e : bitXor (0 * 2) (0 * p) ≡ 0 = ap (bitXor 0) (zero-mul p) in ap (λ s. productFrom p s (replicate k 0 ++ qs)) e ∙ padded k qs
 
   padding : (k : ℕ) → Under 2 (replicate k 0)
   padding zero = tt

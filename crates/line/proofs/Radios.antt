@@ -1,19 +1,18 @@
 -- What the radio line's table and register give. Assumes nothing.
 use mathlib.Core.Path.{_≡_, refl, ap, sym, _∙_, subst}
 use mathlib.Core.Bool.{Bool, true, cond}
-use mathlib.Core.List.{List, [], _∷_, _++_, map}
+use mathlib.Core.List.{List, [], _∷_, map, append-nil}
 use mathlib.Core.Logic.{_≢_}
-use Prim.Native.Nat.{ℕ, suc, _+_, _*_, _-_, _/_, _%_, _^_, _<_, _≤_}
+use Prim.Native.Nat.{ℕ, suc, _+_, _*_, _-_, _/_, _%_, _<_, _≤_}
 use native.Mathlib.Omega.{arith}
 use native.Mathlib.Numerals.{add-one}
-use lib.Bits.{bitAnd}
 use lib.Dec.{ltb, eqb}
 use lib.ListN.{length, drop, getD, set, replicate}
 use Rattle.std.specs.Options.{mapped}
 use Rattle.std.specs.declared.option.Option.{Option}
 use Rattle.std.specs.declared.option.Option.the-variants.{None, Some}
 use Rattle.std.proofs.shelf.Bits.{mod-below, xor-lt}
-use Rattle.std.proofs.shelf.Lists.{drop-more, drop-all, getD-map, getD-default, length-map, getD-replicate, getD-set-same, getD-set-other}
+use Rattle.std.proofs.shelf.Lists.{drop-all, getD-map, getD-default, length-map, getD-replicate, getD-set-same, getD-set-other}
 use Rattle.std.proofs.shelf.Tests.{cond-both, eqb-true, eqb-false, ltb-true, eq-eqb, false≢true}
 use Rattle.line.specs.declared.six_bit.SixBit.{SixBit}
 use Rattle.line.specs.Values.{numberOf, numbers}
@@ -23,7 +22,7 @@ use Rattle.line.specs.Radio.{radioSymbols, radioSymbol, movedUp, registerAfter
 use Rattle.line.proofs.Tables.{at}
 use Rattle.line.proofs.Codes.{searched}
 use Rattle.line.proofs.Numbers.{number-at}
-use Rattle.line.proofs.Dividing.{digits-step, bit-at}
+use Rattle.line.proofs.Folds.{number-more}
 
 -- the place of the first x
 place : ℕ → List ℕ → ℕ
@@ -83,25 +82,16 @@ pub register-below : (r : ℕ) (bs : List ℕ) → r < 256 → registerAfter r b
 register-below r [] h = h
 register-below r (b ∷ bs) h = register-below (movedUp r b) bs (moved-below r b)
 
-register-append : (r : ℕ) (xs ys : List ℕ) → registerAfter r (xs ++ ys) ≡ registerAfter (registerAfter r xs) ys
-register-append r [] ys = refl
-register-append r (x ∷ xs) ys = register-append (movedUp r x) xs ys
-
--- one bit moved in
-pub moved-in : (r i n r′ : ℕ) → 0 < i → r′ ≡ movedUp r (bitAnd (n / 2 ^ (i - 1)) 1) → registerAfter r′ (digits 2 (i - 1) n) ≡ registerAfter r (digits 2 i n)
-moved-in r i n r′ h e = rw (digits-step i n h, e, bit-at n i)
-
 -- one more byte moved through
-pub registered-more : (bytes : List ℕ) (i r r′ : ℕ) → i < length bytes → r′ ≡ registerAfter r (digits 2 8 (getD bytes i 0)) → registerAfter r′ (bitsOf 8 (drop (i + 1) bytes)) ≡ registerAfter r (bitsOf 8 (drop i bytes))
-registered-more bytes i r r′ h e =
-    rw (drop-more bytes i 0, e) (sym (register-append r (digits 2 8 (getD bytes i 0)) (bitsOf 8 (drop (i + 1) bytes))))
+moved-more : (bytes : List ℕ) (i r r′ : ℕ) → i < length bytes → r′ ≡ registerAfter r (digits 2 8 (getD bytes i 0)) → registerAfter r′ (bitsOf 8 (drop (i + 1) bytes)) ≡ registerAfter r (bitsOf 8 (drop i bytes))
+moved-more bytes i r r′ h e = ap (registerAfter r′) (sym (append-nil (bitsOf 8 (drop (i + 1) bytes)))) ∙ number-more movedUp 8 bytes [] i r r′ h e ∙ ap (registerAfter r) (append-nil (bitsOf 8 (drop i bytes)))
 
 -- one more value's symbol moved through
 pub radio-step : (vs : List SixBit) (v : SixBit) (i r s r′ : ℕ) → i < length vs → v ≡ getD vs i v → s ≡ radioSymbol (numberOf v) → r′ ≡ registerAfter r (digits 2 8 s)
     → registerAfter r′ (bitsOf 8 (drop (i + 1) (map radioSymbol (numbers vs)))) ≡ registerAfter r (bitsOf 8 (drop i (map radioSymbol (numbers vs))))
 radio-step vs v i r s r′ h e es er =
     let n : i < length (numbers vs) = rw length-map h in
-    registered-more (map radioSymbol (numbers vs)) i r r′ (rw length-map n)
+    moved-more (map radioSymbol (numbers vs)) i r r′ (rw length-map n)
     (er ∙ ap (λ x. registerAfter r (digits 2 8 x)) (es ∙ ap radioSymbol (number-at vs v i h e) ∙ sym (getD-map radioSymbol (numbers vs) i 0 0 n)))
 
 pub radio-end : (vs : List SixBit) (i r : ℕ) → length vs ≤ i

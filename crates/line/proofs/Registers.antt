@@ -10,9 +10,9 @@ use lib.ListN.{length}
 use Rattle.std.proofs.shelf.Bits.{pow-add, mod-below}
 use Rattle.std.proofs.shelf.Tests.{cond-both, eqb-true, eqb-false}
 use Rattle.std.specs.shelf.Digits.{number, numberAfter, Under}
-use Rattle.line.specs.Division.{productAfter, IsRemainder}
+use Rattle.line.specs.Division.{IsRemainder}
 use Rattle.line.specs.Radio.{movedUp, registerAfter, radioMessage}
-use Rattle.line.proofs.Quotient.{cancels, interchange, xor-doubled, is-remainder}
+use Rattle.line.proofs.Quotient.{cancels, interchange, xor-doubled, productFrom, is-remainder}
 use Rattle.line.proofs.Radios.{moved-below, register-below}
 
 -- two bits that differ add up to one
@@ -71,7 +71,7 @@ message-more c m n b hb =
     ∙ ap (bitXor ((m * 2 + b) * 256)) (xor-zero-r (c * 2 ^ (n + 1)))
 
 registers : (start m n s c : ℕ) (bs : List ℕ) → Under 2 bs → c < 256 → bitXor (m * 256) (start * 2 ^ n) ≡ bitXor s c
-    → (qs : List ℕ) × Under 2 qs × (bitXor (numberAfter 2 m bs * 256) (start * 2 ^ (n + length bs)) ≡ bitXor (productAfter 0x1A6 s qs) (registerAfter c bs))
+    → (qs : List ℕ) × Under 2 qs × (bitXor (numberAfter 2 m bs * 256) (start * 2 ^ (n + length bs)) ≡ bitXor (productFrom 0x1A6 s qs) (registerAfter c bs))
 registers start m n s c [] h hc e = let z : n + 0 ≡ n = omega arith in ([], tt, ap (λ k. bitXor (m * 256) (start * 2 ^ k)) z ∙ e)
 registers start m n s c (b ∷ bs) h hc e =
     let t = moved-divides c b hc (h .0) in

@@ -2,10 +2,11 @@
 -- Assumes nothing.
 use mathlib.Core.Path.{_≡_}
 use mathlib.Core.Bool.{cond}
-use mathlib.Core.List.{List, [], _∷_}
+use mathlib.Core.List.{List}
 use Prim.Native.Nat.{ℕ, _+_, _*_, _^_, _<_}
 use lib.Bits.{bitXor}
 use lib.Dec.{ltb}
+use Rattle.std.specs.Iters.{folded}
 use Rattle.std.specs.shelf.Digits.{Under}
 
 -- Long division by a divisor of the degree: x, of that degree at most, less the divisor where it has that degree.
@@ -14,19 +15,14 @@ reduced degree divisor x = cond (ltb x (2 ^ degree)) x (bitXor x divisor)
 
 -- What is left once the bits were brought down behind `rest`, one after the other.
 abbrev pub remainderAfter : ℕ → ℕ → ℕ → List ℕ → ℕ
-remainderAfter degree divisor rest [] = rest
-remainderAfter degree divisor rest (bit ∷ bits) = remainderAfter degree divisor (reduced degree divisor (2 * rest + bit)) bits
+remainderAfter degree divisor rest bits = folded (λ left bit. reduced degree divisor (2 * left + bit)) rest bits
 
 abbrev pub remainder : ℕ → ℕ → List ℕ → ℕ
 remainder degree divisor bits = remainderAfter degree divisor 0 bits
 
--- The product of a polynomial and one that is given by its bits; `sum` is what the bits before gave.
-abbrev pub productAfter : ℕ → ℕ → List ℕ → ℕ
-productAfter p sum [] = sum
-productAfter p sum (bit ∷ bits) = productAfter p (bitXor (sum * 2) (bit * p)) bits
-
+-- The product of a polynomial and one that is given by its bits, high bit first.
 abbrev pub product : ℕ → List ℕ → ℕ
-product p bits = productAfter p 0 bits
+product p bits = folded (λ sum bit. bitXor (sum * 2) (bit * p)) 0 bits
 
 -- Some quotient times the divisor, plus r, is the message; and r is below the divisor's degree.
 pub record Leaves (degree divisor message r : ℕ) : Type 0 where

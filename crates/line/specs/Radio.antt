@@ -6,6 +6,7 @@ use Prim.Native.Nat.{ℕ, _*_, _/_, _%_, _^_, _<_}
 use lib.Bits.{bitXor}
 use lib.Dec.{eqb}
 use lib.ListN.{length, getD}
+use Rattle.std.specs.Iters.{folded}
 use Rattle.std.specs.declared.option.Option.{Option}
 use Rattle.std.specs.declared.option.Option.the-variants.{None, Some}
 use Rattle.std.specs.shelf.Digits.{number}
@@ -35,8 +36,7 @@ movedUp register bit = bitXor (register * 2 % 256) (cond (eqb (register / 128) b
 
 -- the register after a row of bits
 abbrev pub registerAfter : ℕ → List ℕ → ℕ
-registerAfter register [] = register
-registerAfter register (bit ∷ bits) = registerAfter (movedUp register bit) bits
+registerAfter register bits = folded movedUp register bits
 
 -- the register, all ones at first, after bytes that come high bit first
 abbrev pub registerOver : List ℕ → ℕ

@@ -5,7 +5,7 @@ use Prim.Native.Nat.{_/_}
 use Rattle.line.specs.Values.{numbers}
 use Rattle.line.specs.Digits.{bitsOf}
 use Rattle.line.specs.Radio.{radioSymbol, radio, registerOver}
-use Rattle.line.proofs.Dividing.{bitsOf-under}
+use Rattle.line.proofs.Folds.{bitsOf-under}
 use Rattle.line.proofs.Radios.{radio-step, radio-end}
 use Rattle.line.proofs.Registers.{register-remainder}
 use Rattle.line.proofs.radio.RadioLine.check.Needs as need

@@ -78,14 +78,20 @@ pub struct Refusal {
 /// The values of a frame's bytes on a line.
 pub fn read(line: Line, bytes: &[u8]) -> Result<Vec<u8>, Refusal> {
     if ![26, 37, 48].contains(&bytes.len()) {
-        return Err(Refusal { number: 2, place: 0 });
+        return Err(Refusal {
+            number: 2,
+            place: 0,
+        });
     }
     let mut values = Vec::new();
     for (place, byte) in bytes.iter().enumerate() {
         values.push(line.value(*byte).ok_or(Refusal { number: 3, place })?);
     }
     if values[2] != line.check(&values[3..]) {
-        return Err(Refusal { number: 4, place: 0 });
+        return Err(Refusal {
+            number: 4,
+            place: 0,
+        });
     }
     Ok(values)
 }

@@ -27,7 +27,10 @@ fn main() -> Result<(), Box<dyn Error>> {
 fn files(seed: u64) -> Vec<(&'static str, Vec<u8>)> {
     println!("vectors of seed {seed}");
     let (stdin, stdout) = bridge::vectors(seed);
-    vec![("crates/bridge/stdin", stdin), ("crates/bridge/stdout", stdout)]
+    vec![
+        ("crates/bridge/stdin", stdin),
+        ("crates/bridge/stdout", stdout),
+    ]
 }
 
 fn write(seed: u64) -> Result<(), Box<dyn Error>> {

@@ -11,6 +11,7 @@ use Rattle.refusal.specs.Refusals.{textOf}
 use Rattle.line.specs.Cable.{cable}
 use Rattle.line.specs.Radio.{radio}
 use Rattle.wire.specs.declared.fault.CarryFault.{CarryFault}
+use Rattle.wire.specs.Frames.{frameRoom}
 use Rattle.wire.specs.Refusing.{carryRefusal, carryRefused, carried}
 
 -- A line ends at the byte 0x0A, which is no part of the frame; the last line may lack it.
@@ -24,9 +25,9 @@ hexDigit d = cond (ltb d 10) (0x30 + d) (0x37 + d)
 abbrev pub hexPair : ℕ → List ℕ
 hexPair byte = hexDigit (byte / 16) ∷ hexDigit (byte % 16) ∷ []
 
--- the refusal of a cable frame, if there is one, for a buffer of 48 bytes
+-- the refusal of a cable frame, if there is one, for a buffer with room
 abbrev pub refusedFor : List ℕ → Option CarryFault
-refusedFor frame = carryRefusal cable 48 frame
+refusedFor frame = carryRefusal cable frameRoom frame
 
 -- what is told of a frame with this refusal, or with none
 abbrev pub textBy : Option CarryFault → List ℕ → List ℕ

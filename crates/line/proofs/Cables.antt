@@ -15,7 +15,7 @@ use Rattle.line.specs.Division.{reduced, remainderAfter, IsRemainder}
 use Rattle.line.specs.Cable.{cable, cableMessage}
 use Rattle.line.proofs.Folds.{bits-under, bitsOf-under, number-more}
 use Rattle.line.proofs.Numbers.{number-at}
-use Rattle.line.proofs.Quotient.{long-division}
+use Rattle.line.proofs.Dividing.{long-division}
 
 pub cable-bits : (vs : List ℕ) → Under 2 (cableMessage vs)
 cable-bits vs = all-append (λ b. b < 2) (bitsOf 6 vs) (replicate 6 0) (bitsOf-under 6 vs) (bits-under 6 0)

@@ -1,39 +1,41 @@
--- What long division keeps: what is left has a lower degree than the divisor. Assumes nothing.
-use mathlib.Core.Path.{_≡_, ap, _∙_}
+-- Long division takes the divisor off, or not, at each bit. Assumes nothing.
+use mathlib.Core.Path.{_≡_, refl, ap, sym, _∙_, subst}
 use mathlib.Core.List.{List, [], _∷_}
-use Prim.Native.Nat.{ℕ, _+_, _*_, _/_, _-_, _^_, _<_, _≤_}
+use Prim.Native.Nat.{ℕ, _+_, _*_, _^_, _<_, _≤_}
 use native.Mathlib.Omega.{arith}
-use native.Mathlib.Nat.{zero-mul}
-use lib.Bits.{bitXor}
+use native.Mathlib.Nat.{zero-mul, one-mul}
+use lib.Bits.{bitXor, xor-zero-r, xor-shifted}
 use lib.Dec.{ltb}
 use Rattle.std.proofs.shelf.Tests.{cond-both, ltb-true, ltb-false}
-use Rattle.std.proofs.shelf.Bits.{xor-shr, shr-split, pow-pos, mod-below, div-below, le-div}
-use Rattle.std.specs.shelf.Digits.{Under}
-use Rattle.line.specs.Division.{reduced, remainderAfter}
+use Rattle.std.proofs.shelf.Bits.{pow-pos}
+use Rattle.std.specs.shelf.Digits.{number, numberAfter, Under}
+use Rattle.line.specs.Division.{reduced, remainder, IsRemainder}
+use Rattle.line.proofs.Sums.{leading-lost}
+use Rattle.line.proofs.Remainders.{messageFrom, Takes, all-fit, is-remainder}
 
-pub quotient-one : (d x : ℕ) → 2 ^ d ≤ x → x < 2 * 2 ^ d → x / 2 ^ d ≡ 1
-quotient-one d x lx hx =
-    let p = pow-pos d in
-    omega (arith, div-below x (2 ^ d) 2 p hx, le-div 1 x (2 ^ d) p (omega arith))
+-- a bit that comes in at the lowest place makes a number of the bits
+joined : (v b : ℕ) → b < 2 → bitXor (v * 2) (b * 1) ≡ v * 2 + b
+joined v b h = let e : b * 1 ≡ b = omega arith in ap (bitXor (v * 2)) e ∙ xor-shifted v 1 b h
 
--- of two numbers of degree d the highest bits cancel
-pub xor-cancels : (d x y : ℕ) → 2 ^ d ≤ x → x < 2 * 2 ^ d → 2 ^ d ≤ y → y < 2 * 2 ^ d → bitXor x y < 2 ^ d
-xor-cancels d x y lx hx ly hy =
-    let p = pow-pos d in
-    let qx : x / 2 ^ d ≡ 1 = quotient-one d x lx hx in
-    let qy : y / 2 ^ d ≡ 1 = quotient-one d y ly hy in
-    let q : bitXor x y / 2 ^ d ≡ 0 = xor-shr x y d ∙ ap (λ n. bitXor n (y / 2 ^ d)) qx ∙ ap (λ n. bitXor 1 n) qy in
-    let s = shr-split (bitXor x y) d in
-    let z : bitXor x y / 2 ^ d * 2 ^ d ≡ 0 = rw q (zero-mul (2 ^ d)) in
-    omega (arith, mod-below (bitXor x y) (2 ^ d) p)
+number-message : (v : ℕ) (bits : List ℕ) → Under 2 bits → messageFrom 1 v bits ≡ numberAfter 2 v bits
+number-message v [] u = refl
+number-message v (b ∷ bs) u = ap (λ n. messageFrom 1 n bs) (joined v b (u .0)) ∙ number-message (v * 2 + b) bs (u .1)
 
 module _ (d p : ℕ) (lp : 2 ^ d ≤ p) (hp : p < 2 * 2 ^ d) where
-  pub reduced-below : (x : ℕ) → x < 2 * 2 ^ d → reduced d p x < 2 ^ d
+  takes : (rest bit : ℕ) → rest < 2 ^ d → bit < 2 → Takes p 1 (λ n. n < 2 ^ d) (λ left b. reduced d p (2 * left + b)) rest bit
   unfolding reduced
-  reduced-below x hx =
-      cond-both (ltb x (2 ^ d)) x (bitXor x p) (λ y. y < 2 ^ d) (λ e. ltb-true x (2 ^ d) e)
-      (λ e. xor-cancels d x p (ltb-false x (2 ^ d) e) hx lp hp)
+  takes rest bit h hb =
+      let x = 2 * rest + bit in
+      let came : x ≡ bitXor (rest * 2) (bit * 1) = sym (joined rest bit hb ∙ omega arith) in
+      let t = cond-both (ltb x (2 ^ d)) x (bitXor x p) (λ y. (q : ℕ) × (q < 2) × (y ≡ bitXor (bitXor (rest * 2) (bit * 1)) (q * p)) × (y < 2 ^ d))
+      (λ e. (0, omega arith, came ∙ sym (xor-zero-r (bitXor (rest * 2) (bit * 1))) ∙ ap (bitXor (bitXor (rest * 2) (bit * 1))) (sym (zero-mul p)), ltb-true x (2 ^ d) e))
+      (λ e. (1, omega arith, ap (λ n. bitXor n p) came ∙ ap (bitXor (bitXor (rest * 2) (bit * 1))) (sym (one-mul p)), leading-lost d x p (ltb-false x (2 ^ d) e) (omega arith) lp hp)) in
+      record { quotient = t .0; is-bit = t .1; taken = t .2; fits-again = t .3 }
 
-  pub remainder-below : (r : ℕ) (bs : List ℕ) → r < 2 ^ d → Under 2 bs → remainderAfter d p r bs < 2 ^ d
-  remainder-below r [] hr hb = hr
-  remainder-below r (b ∷ bs) hr hb = remainder-below (reduced d p (2 * r + b)) bs (reduced-below (2 * r + b) (omega (arith, hb .0))) (hb .1)
+  pub remainder-below : (bits : List ℕ) → Under 2 bits → remainder d p bits < 2 ^ d
+  remainder-below bits u = all-fit p 1 (λ n. n < 2 ^ d) (λ left b. reduced d p (2 * left + b)) takes 0 bits u (pow-pos d)
+
+  pub long-division : (bits : List ℕ) → Under 2 bits → IsRemainder d p (number 2 bits) (remainder d p bits)
+  long-division bits u =
+      subst (λ (m : ℕ). IsRemainder d p m (remainder d p bits)) (number-message 0 bits u)
+      (is-remainder d p lp hp 1 (λ left b. reduced d p (2 * left + b)) takes 0 bits u (pow-pos d))

@@ -1,9 +1,9 @@
 pub mod Codes
-pub mod Folds
-pub mod Dividing
-pub mod Quotient
 pub mod Numbers
+pub mod Folds
+pub mod Sums
+pub mod Remainders
+pub mod Dividing
 pub mod Cables
-pub mod Tables
 pub mod Radios
 pub mod Registers

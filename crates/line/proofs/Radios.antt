@@ -1,9 +1,9 @@
 -- What the radio line's table and register give. Assumes nothing.
 use mathlib.Core.Path.{_≡_, refl, ap, sym, _∙_, subst}
-use mathlib.Core.Bool.{Bool, true, cond}
-use mathlib.Core.List.{List, [], _∷_, map, append-nil}
+use mathlib.Core.Bool.{Bool, true, false, _&&_}
+use mathlib.Core.List.{List, [], map, append-nil}
 use mathlib.Core.Logic.{_≢_}
-use Prim.Native.Nat.{ℕ, suc, _+_, _*_, _-_, _/_, _%_, _<_, _≤_}
+use Prim.Native.Nat.{ℕ, zero, suc, _+_, _-_, _<_, _≤_}
 use native.Mathlib.Omega.{arith}
 use native.Mathlib.Numerals.{add-one}
 use lib.Dec.{ltb, eqb}
@@ -11,41 +11,52 @@ use lib.ListN.{length, drop, getD, set, replicate}
 use Rattle.std.specs.Options.{mapped}
 use Rattle.std.specs.declared.option.Option.{Option}
 use Rattle.std.specs.declared.option.Option.the-variants.{None, Some}
-use Rattle.std.proofs.shelf.Bits.{mod-below, xor-lt}
 use Rattle.std.proofs.shelf.Lists.{drop-all, getD-map, getD-default, length-map, getD-replicate, getD-set-same, getD-set-other}
-use Rattle.std.proofs.shelf.Tests.{cond-both, eqb-true, eqb-false, ltb-true, eq-eqb, false≢true}
+use Rattle.std.proofs.shelf.Tests.{cond-both, eqb-true, eqb-false, ltb-true, eq-eqb, false≢true, and-parts}
+use Rattle.std.proofs.shelf.Ways.{decides-below-and}
 use Rattle.line.specs.declared.six_bit.SixBit.{SixBit}
 use Rattle.line.specs.Values.{numberOf, numbers}
 use Rattle.line.specs.Digits.{digits, bitsOf}
 use Rattle.line.specs.Code.{Reads, valueBelow}
 use Rattle.line.specs.Radio.{radioSymbols, radioSymbol, movedUp, registerAfter, registerOver, radio, agrees, ReadsBelow}
-use Rattle.line.proofs.Tables.{at}
 use Rattle.line.proofs.Codes.{searched}
 use Rattle.line.proofs.Numbers.{number-at}
 use Rattle.line.proofs.Folds.{number-more}
 
--- the place of the first x
-place : ℕ → List ℕ → ℕ
-place x [] = 0
-place x (y ∷ ys) = cond (eqb x y) 0 (suc (place x ys))
+is : Option ℕ → ℕ → Bool
+is None v = false
+is (Some w) v = eqb w v
 
-is-byte : ℕ → ℕ → Bool
-is-byte k x = ltb x 256
+is-some : (o : Option ℕ) (v : ℕ) → is o v ≡ true → o ≡ Some v
+unfolding is
+is-some None v e = absurd (false≢true e)
+is-some (Some w) v e = ap (λ n. Some n) (eqb-true w v e)
 
-stands-first : ℕ → ℕ → Bool
-stands-first k x = eqb (place x radioSymbols) k
+-- a value's symbol is a byte, and is found again as the symbol of this value and of no later one
+stands : ℕ → Bool
+stands v = ltb (radioSymbol v) 256 && is (valueBelow radioSymbol 64 (radioSymbol v)) v
+
+all-stand : ℕ → Bool
+all-stand zero = true
+all-stand (suc n) = stands n && all-stand n
+
+-- one test over the whole table, and what it says of each entry
+table-stands : (v : ℕ) → v < 64 → stands v ≡ true
+unfolding all-stand stands is valueBelow radioSymbol radioSymbols
+table-stands = decides-below-and stands (λ v. stands v ≡ true) all-stand (λ v. (λ e. e, λ e. e)) refl (λ n. refl) 64 .0 refl
 
 pub symbol-byte : (v : ℕ) → v < 64 → radioSymbol v < 256
-unfolding radioSymbol radioSymbols is-byte
-symbol-byte v h = ltb-true (getD radioSymbols v 0) 256 (at is-byte radioSymbols refl v h)
+unfolding stands
+symbol-byte v h = ltb-true (radioSymbol v) 256 (and-parts (ltb (radioSymbol v) 256) _ (table-stands v h) .0)
 
--- each symbol stands at its own place and at no earlier one: one test over the whole table
-symbol-place : (v : ℕ) → v < 64 → place (radioSymbol v) radioSymbols ≡ v
-unfolding radioSymbol radioSymbols stands-first place
-symbol-place v h = eqb-true (place (getD radioSymbols v 0) radioSymbols) v (at stands-first radioSymbols refl v h)
+symbol-found : (v : ℕ) → v < 64 → valueBelow radioSymbol 64 (radioSymbol v) ≡ Some v
+unfolding stands
+symbol-found v h = is-some (valueBelow radioSymbol 64 (radioSymbol v)) v (and-parts (ltb (radioSymbol v) 256) _ (table-stands v h) .1)
 
 pub symbol-distinct : (v w : ℕ) → v < 64 → w < 64 → radioSymbol v ≡ radioSymbol w → v ≡ w
-symbol-distinct v w hv hw e = sym (symbol-place v hv) ∙ ap (λ x. place x radioSymbols) e ∙ symbol-place w hw
+symbol-distinct v w hv hw e =
+    let s : Some v ≡ Some w = sym (symbol-found v hv) ∙ ap (valueBelow radioSymbol 64) e ∙ symbol-found w hw in
+    grind arith
 
 agree-same : (o : Option SixBit) (v : Option ℕ) → agrees o v ≡ true → mapped numberOf o ≡ v
 agree-same None None e = refl
@@ -71,16 +82,6 @@ reads-more n x v table long ev ex hx inv b hb =
     (λ e. let s : x ≡ b = ex ∙ eqb-true (radioSymbol n) b e in
     subst (λ (y : ℕ). agrees (getD (set table x (Some v)) y None) (Some n) ≡ true) s (ap (λ o. agrees o (Some n)) (getD-set-same table x (Some v) None (omega arith)) ∙ eq-eqb (numberOf v) n ev))
     (λ e. let ne : b ≢ x = λ q. eqb-false (radioSymbol n) b e (sym ex ∙ sym q) in ap (λ o. agrees o (valueBelow radioSymbol n b)) (getD-set-other table x b (Some v) None ne) ∙ inv b hb))
-
-pub moved-below : (r b : ℕ) → movedUp r b < 256
-unfolding movedUp
-moved-below r b =
-    xor-lt 8 (r * 2 % 256) (cond (eqb (r / 128) b) 0 0xA6) (mod-below (r * 2) 256 (omega arith))
-    (cond-both (eqb (r / 128) b) 0 0xA6 (λ x. x < 256) (λ e. omega arith) (λ e. omega arith))
-
-pub register-below : (r : ℕ) (bs : List ℕ) → r < 256 → registerAfter r bs < 256
-register-below r [] h = h
-register-below r (b ∷ bs) h = register-below (movedUp r b) bs (moved-below r b)
 
 -- one more byte moved through
 moved-more : (bytes : List ℕ) (i r r′ : ℕ) → i < length bytes → r′ ≡ registerAfter r (digits 2 8 (getD bytes i 0)) → registerAfter r′ (bitsOf 8 (drop (i + 1) bytes)) ≡ registerAfter r (bitsOf 8 (drop i bytes))

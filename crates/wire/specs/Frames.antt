@@ -13,6 +13,10 @@ use Rattle.line.specs.Code.{LineCode, valueOf}
 abbrev pub frameLength : ℕ → Bool
 frameLength n = eqb n 26 || (eqb n 37 || eqb n 48)
 
+-- A buffer for a frame has room for the longest.
+abbrev pub frameRoom : ℕ
+frameRoom = 48
+
 -- this place if nothing stands there, else what the rest gives
 abbrev pub orLater : ℕ → Option ℕ → Option ℕ → Option ℕ
 orLater i None later = Some i

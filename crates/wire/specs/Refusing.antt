@@ -14,7 +14,7 @@ use Rattle.wire.specs.declared.fault.LineFault.{LineFault}
 use Rattle.wire.specs.declared.fault.LineFault.the-variants.{Length, NoSymbol, Check}
 use Rattle.wire.specs.declared.fault.CarryFault.{CarryFault}
 use Rattle.wire.specs.declared.fault.CarryFault.the-variants.{Buffer, Line}
-use Rattle.wire.specs.Frames.{frameLength, firstNoSymbol, valuesOf, checkHolds, bytesOf}
+use Rattle.wire.specs.Frames.{frameRoom, frameLength, firstNoSymbol, valuesOf, checkHolds, bytesOf}
 
 -- The length, a byte that is no symbol, the check: the first that applies.
 abbrev pub lineRefusal : LineCode → List ℕ → Option LineFault
@@ -22,9 +22,9 @@ lineRefusal code bytes =
     orElse (unless (frameLength (length bytes)) Length)
     (orElse (mapped NoSymbol (firstNoSymbol code 0 bytes)) (unless (checkHolds code (valuesOf code bytes)) Check))
 
--- A buffer of so many bytes, below 48, comes before all of these.
+-- A buffer without room for a frame comes before all of these.
 abbrev pub carryRefusal : LineCode → ℕ → List ℕ → Option CarryFault
-carryRefusal code room bytes = orElse (unless (leb 48 room) (Buffer (record {}))) (mapped Line (lineRefusal code bytes))
+carryRefusal code room bytes = orElse (unless (leb frameRoom room) (Buffer (record {}))) (mapped Line (lineRefusal code bytes))
 
 -- the bytes of the same frame on another line
 abbrev pub carried : LineCode → LineCode → List ℕ → List ℕ

@@ -8,5 +8,5 @@ pub lawful-law : need.lawful-law
 lawful-law l = record {
   byte = λ v h. omega arith;
   distinct = λ v w hv hw e. omega arith;
-  sixBits = λ vs h. remainder-below 6 0x43 (omega arith) (omega arith) 0 (cableMessage vs) (omega arith) (cable-bits vs);
+  sixBits = λ vs h. remainder-below 6 0x43 (omega arith) (omega arith) (cableMessage vs) (cable-bits vs);
 }

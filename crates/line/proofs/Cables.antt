@@ -8,14 +8,14 @@ use Rattle.std.proofs.shelf.Elements.{all-append}
 use Rattle.std.proofs.shelf.Lists.{length-map, drop-all}
 use Rattle.std.specs.shelf.Digits.{number, Under}
 use Rattle.line.specs.declared.six_bit.SixBit.{SixBit}
-use Rattle.line.specs.declared.division.Division.{Division}
+use Rattle.arithmetic.specs.declared.division.Division.{Division}
 use Rattle.line.specs.Values.{numberOf, numbers}
-use Rattle.line.specs.Digits.{digits, bitsOf}
-use Rattle.line.specs.Division.{reduced, remainderAfter, IsRemainder}
+use Rattle.arithmetic.specs.Digits.{digits, bitsOf}
+use Rattle.arithmetic.specs.Division.{reduced, remainderAfter, IsRemainder}
 use Rattle.line.specs.Cable.{cable, cableMessage}
-use Rattle.line.proofs.Folds.{bits-under, bitsOf-under, number-more}
+use Rattle.arithmetic.proofs.Folds.{bits-under, bitsOf-under, number-more}
 use Rattle.line.proofs.Numbers.{number-at}
-use Rattle.line.proofs.Dividing.{long-division}
+use Rattle.arithmetic.proofs.Dividing.{long-division}
 
 pub cable-bits : (vs : List ℕ) → Under 2 (cableMessage vs)
 cable-bits vs = all-append (λ b. b < 2) (bitsOf 6 vs) (replicate 6 0) (bitsOf-under 6 vs) (bits-under 6 0)

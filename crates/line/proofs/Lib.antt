@@ -1,9 +1,5 @@
 pub mod Codes
 pub mod Numbers
-pub mod Folds
-pub mod Sums
-pub mod Remainders
-pub mod Dividing
 pub mod Cables
 pub mod Radios
 pub mod Registers

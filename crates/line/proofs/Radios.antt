@@ -16,12 +16,12 @@ use Rattle.std.proofs.shelf.Tests.{cond-both, eqb-true, eqb-false, ltb-true, eq
 use Rattle.std.proofs.shelf.Ways.{decides-below-and}
 use Rattle.line.specs.declared.six_bit.SixBit.{SixBit}
 use Rattle.line.specs.Values.{numberOf, numbers}
-use Rattle.line.specs.Digits.{digits, bitsOf}
+use Rattle.arithmetic.specs.Digits.{digits, bitsOf}
 use Rattle.line.specs.Code.{Reads, valueBelow}
 use Rattle.line.specs.Radio.{radioSymbols, radioSymbol, movedUp, registerAfter, registerOver, radio, agrees, ReadsBelow}
 use Rattle.line.proofs.Codes.{searched}
 use Rattle.line.proofs.Numbers.{number-at}
-use Rattle.line.proofs.Folds.{number-more}
+use Rattle.arithmetic.proofs.Folds.{number-more}
 
 is : Option ℕ → ℕ → Bool
 is None v = false

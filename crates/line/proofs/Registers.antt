@@ -10,10 +10,10 @@ use lib.ListN.{length}
 use Rattle.std.proofs.shelf.Bits.{pow-add, mod-below}
 use Rattle.std.proofs.shelf.Tests.{cond-both, eqb-true, eqb-false}
 use Rattle.std.specs.shelf.Digits.{number, numberAfter, Under}
-use Rattle.line.specs.Division.{IsRemainder}
+use Rattle.arithmetic.specs.Division.{IsRemainder}
 use Rattle.line.specs.Radio.{movedUp, registerAfter, radioMessage}
-use Rattle.line.proofs.Sums.{interchange, doubled-sum}
-use Rattle.line.proofs.Remainders.{messageFrom, Takes, all-fit, is-remainder}
+use Rattle.arithmetic.proofs.Sums.{interchange, doubled-sum}
+use Rattle.arithmetic.proofs.Remainders.{messageFrom, Takes, all-fit, is-remainder}
 
 -- two bits that differ add up to one
 differ : (a b : ℕ) → a < 2 → b < 2 → (a ≡ b → ⊥) → bitXor a b ≡ 1

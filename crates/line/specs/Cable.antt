@@ -2,8 +2,8 @@
 use mathlib.Core.List.{List, _++_}
 use Prim.Native.Nat.{ℕ, _+_}
 use lib.ListN.{replicate}
-use Rattle.line.specs.Digits.{bitsOf}
-use Rattle.line.specs.Division.{remainder}
+use Rattle.arithmetic.specs.Digits.{bitsOf}
+use Rattle.arithmetic.specs.Division.{remainder}
 use Rattle.line.specs.Code.{LineCode}
 
 -- What is divided for the check: the values as bits, and six zero bits behind them.

@@ -12,7 +12,7 @@ use Rattle.std.specs.declared.option.Option.the-variants.{None, Some}
 use Rattle.std.specs.shelf.Digits.{number}
 use Rattle.line.specs.declared.six_bit.SixBit.{SixBit}
 use Rattle.line.specs.Values.{numberOf}
-use Rattle.line.specs.Digits.{bitsOf}
+use Rattle.arithmetic.specs.Digits.{bitsOf}
 use Rattle.line.specs.Code.{LineCode, valueBelow}
 
 -- the byte that stands for each value, at the value's place: chosen for a receiver's clock, with about as many ones as zeros

@@ -2,10 +2,10 @@
 ghost use mathlib.Core.Path.{_≡_};
 ghost use Rattle.std.specs.shelf.Digits.{number};
 ghost use Rattle.line.specs.Values.{numberOf, numbers};
-ghost use Rattle.line.specs.Division.{IsRemainder};
+ghost use Rattle.arithmetic.specs.Division.{IsRemainder};
 ghost use Rattle.line.specs.Cable.{cable, cableMessage};
 use crate::Line;
-use crate::division::Division;
+use arithmetic::Division;
 use crate::six_bit::SixBit;
 
 // Symbols are the 64 bytes from 0x30 on, and the check is a remainder.

@@ -5,8 +5,6 @@ ghost use Rattle.line.specs.Values.{numberOf, numbers};
 ghost use Rattle.line.specs.Code.{LineCode, Lawful, Reads};
 
 mod cable;
-mod divide;
-mod division;
 mod number;
 mod radio;
 mod six_bit;

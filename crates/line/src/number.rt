@@ -1,4 +1,5 @@
 ghost use mathlib.Core.Path.{_≡_};
+ghost use Prim.Native.Nat.{_%_};
 ghost use Rattle.std.specs.declared.option.Option.the-variants.{None, Some};
 ghost use Rattle.std.specs.Options.{mapped};
 ghost use Rattle.line.specs.Values.{numberOf, sixBitOf};
@@ -15,6 +16,15 @@ impl SixBit {
             Some(SixBit { number })
         } else {
             None
+        }
+    }
+
+    // The lowest six bits of a number.
+    pub fn lowest(number: u128) -> SixBit
+        ensures { λ r. ⌜ numberOf r ≡ number % 64 ⌝ }
+    {
+        SixBit {
+            number: (number % 64) as u8,
         }
     }
 

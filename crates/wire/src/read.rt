@@ -1,9 +1,10 @@
 // A frame's bytes read as values.
 ghost use mathlib.Core.Path.{_≡_};
-ghost use mathlib.Core.Bool.{true};
+ghost use mathlib.Core.Bool.{true, cond};
 ghost use Prim.Native.Nat.{_≤_};
-ghost use lib.ListN.{length};
+ghost use lib.ListN.{length, take, replicate};
 ghost use Rattle.std.specs.Options.{mapped};
+ghost use Rattle.std.specs.declared.option.Option.the-variants.{None as none, Some as some};
 ghost use Rattle.refusal.specs.Outcomes.{Outcome};
 ghost use Rattle.line.specs.Values.{numbers};
 ghost use Rattle.wire.specs.Frames.{frameLength, firstNoSymbol, valuesOf, checkHolds};
@@ -55,13 +56,14 @@ fn read_into<L: Line>(line: &L, frame: &[u8], values: &mut [SixBit]) -> Result<(
     Ok(())
 }
 
-fn blank() -> [SixBit; 48]
-    ensures { λ r. ⌜ length r ≡ 48 ⌝ }
-{
-    [SixBit::ZERO; 48]
-}
-
 impl FrameValues {
+    // Room for the values of any frame, all of them 0.
+    pub fn room() -> [SixBit; 48]
+        ensures { λ r. ⌜ numbers r ≡ replicate 48 0 ⌝ }
+    {
+        [SixBit::ZERO; 48]
+    }
+
     // Reads the values of a frame's bytes, or tells the first fault that applies.
     pub fn read<L: Line>(line: &L, frame: &[u8]) -> Result<FrameValues, LineFault>
         ensures { λ r. ⌜ Read (L·Line .code (now (line .entry))) (now (frame .entry)) r ⌝ }
@@ -70,13 +72,25 @@ impl FrameValues {
         if !is_frame_length(count) {
             return Err(LineFault::Length);
         }
-        let mut values = blank();
+        let mut values = FrameValues::room();
         read_into(line, frame, &mut values[0..count])?;
         Ok(FrameValues { values, count })
     }
 
+    // The frame whose values are the first of these, or none where no frame has so many.
+    pub fn new(values: [SixBit; 48], count: usize) -> Option<FrameValues>
+        ensures { λ r. ⌜ mapped valuesIn r ≡ cond (frameLength count) (some (numbers (take count values))) none ⌝ }
+    {
+        if is_frame_length(count) {
+            Some(FrameValues { values, count })
+        } else {
+            None
+        }
+    }
+
     pub fn as_slice(&self) -> &[SixBit]
-        ensures { λ r. ⌜ numbers (now r) ≡ valuesIn (now (self .entry)) ⌝ }
+        ensures values { λ r. ⌜ numbers (now r) ≡ valuesIn (now (self .entry)) ⌝ }
+        ensures whole { λ r. ⌜ frameLength (length (now r)) ≡ true ⌝ }
     {
         &self.values[0..self.count]
     }

@@ -1,5 +1,6 @@
 //! What the program `bridge` is fed, and what it must print.
 
+use crate::cases::{any, no_symbol};
 use crate::line::{read, write, Line};
 use crate::random::Random;
 
@@ -9,26 +10,6 @@ const LENGTHS: [usize; 3] = [26, 37, 48];
 fn good(random: &mut Random, length: usize) -> Vec<u8> {
     let values: Vec<u8> = (0..length).map(|_| random.below(64) as u8).collect();
     write(Line::Cable, &values)
-}
-
-/// Any byte but the one that ends a line.
-fn any(random: &mut Random) -> u8 {
-    loop {
-        match random.byte() {
-            b'\n' => {}
-            byte => return byte,
-        }
-    }
-}
-
-/// A byte that is no symbol of the cable and does not end a line.
-fn no_symbol(random: &mut Random) -> u8 {
-    loop {
-        let byte = any(random);
-        if Line::Cable.value(byte).is_none() {
-            return byte;
-        }
-    }
 }
 
 /// Each case is one line of input.
@@ -91,7 +72,7 @@ fn answer(frame: &[u8], carried: &mut usize) -> String {
                 .map(|byte| format!("{byte:02X}"))
                 .collect()
         }
-        Err(refusal) => format!("!{:02} {:03}", refusal.number, refusal.place),
+        Err(refusal) => refusal.to_string(),
     }
 }
 

@@ -1,5 +1,8 @@
 //! The two lines, written from docs/PROTOCOL.md alone.
 
+use crate::bits;
+use std::fmt;
+
 #[derive(Clone, Copy)]
 pub enum Line {
     Radio,
@@ -23,25 +26,13 @@ pub fn register(bytes: &[u8]) -> u8 {
     })
 }
 
-/// What is left of the bits, six zero bits behind them, after division by x^6 + x + 1.
+/// What is left of the values' bits, six zero bits behind them, after division by x^6 + x + 1.
 fn cable_remainder(values: &[u8]) -> u8 {
-    let mut bits: Vec<bool> = values
+    let row: Vec<bool> = values
         .iter()
-        .flat_map(|value| (0..6).rev().map(move |k| value >> k & 1 == 1))
+        .flat_map(|value| bits::of(u64::from(*value), 6))
         .collect();
-    let message = bits.len();
-    bits.extend([false; 6]);
-    let divisor = [true, false, false, false, false, true, true];
-    for at in 0..message {
-        if bits[at] {
-            for (bit, d) in bits[at..].iter_mut().zip(divisor) {
-                *bit ^= d;
-            }
-        }
-    }
-    bits[message..]
-        .iter()
-        .fold(0, |number, bit| number * 2 + u8::from(*bit))
+    bits::remainder(&row, &bits::of(0x43, 7)) as u8
 }
 
 impl Line {
@@ -73,6 +64,12 @@ impl Line {
 pub struct Refusal {
     pub number: u8,
     pub place: usize,
+}
+
+impl fmt::Display for Refusal {
+    fn fmt(&self, f: &mut fmt::Formatter) -> fmt::Result {
+        write!(f, "!{:02} {:03}", self.number, self.place)
+    }
 }
 
 /// The values of a frame's bytes on a line.
@@ -143,6 +140,15 @@ mod tests {
             0xA3, 0x56, 0xB5, 0x9C, 0x9A, 0xD5, 0xD9, 0x6A, 0xC9,
         ];
         assert_eq!(register(&restored), 0xFC);
+    }
+
+    #[test]
+    fn refusals_as_text() {
+        let refusal = Refusal {
+            number: 3,
+            place: 17,
+        };
+        assert_eq!(refusal.to_string(), "!03 017");
     }
 
     #[test]

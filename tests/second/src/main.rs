@@ -4,9 +4,14 @@
 //!     second write [SEED]    write the files
 //!     second check           fail unless the files are those of the seed below
 
+mod bits;
 mod bridge;
+mod cases;
+mod frame;
+mod inspect;
 mod line;
 mod random;
+mod seal;
 
 use std::error::Error;
 use std::fs;
@@ -26,10 +31,14 @@ fn main() -> Result<(), Box<dyn Error>> {
 /// Each file with its bytes.
 fn files(seed: u64) -> Vec<(&'static str, Vec<u8>)> {
     println!("vectors of seed {seed}");
-    let (stdin, stdout) = bridge::vectors(seed);
+    let (bridge_stdin, bridge_stdout) = bridge::vectors(seed);
+    let (inspect_stdin, inspect_stdout) = inspect::vectors(seed);
     vec![
-        ("crates/bridge/stdin", stdin),
-        ("crates/bridge/stdout", stdout),
+        ("crates/bridge/stdin", bridge_stdin),
+        ("crates/bridge/stdout", bridge_stdout),
+        ("crates/inspect/args", inspect::ARGUMENTS.to_vec()),
+        ("crates/inspect/stdin", inspect_stdin),
+        ("crates/inspect/stdout", inspect_stdout),
     ]
 }
 

@@ -1,7 +1,7 @@
 use native.Mathlib.Omega.{arith}
 use mathlib.Core.Path.{_∙_}
 use Rattle.line.specs.Radio.{movedUp}
-use Rattle.line.proofs.Folds.{bit-more}
+use Rattle.arithmetic.proofs.Folds.{bit-more}
 use Rattle.line.proofs.radio.moved_through.Needs as need
 
 pub loop-i-again : need.loop-i-again

@@ -1,5 +1,5 @@
 use mathlib.Core.Path.{_≡_}
-use Rattle.line.specs.Digits.{digits}
+use Rattle.arithmetic.specs.Digits.{digits}
 use Rattle.line.specs.Radio.{registerAfter}
 use Rattle.line.proofs.radio.moved_through.Given as given
 

@@ -3,8 +3,8 @@ use mathlib.Core.List.{_++_}
 use Prim.Native.Nat.{_<_}
 use lib.ListN.{drop, replicate}
 use Rattle.line.specs.Values.{numbers}
-use Rattle.line.specs.Digits.{bitsOf}
-use Rattle.line.specs.Division.{remainderAfter}
+use Rattle.arithmetic.specs.Digits.{bitsOf}
+use Rattle.arithmetic.specs.Division.{remainderAfter}
 use Rattle.line.specs.Cable.{cable}
 use Rattle.line.proofs.cable.CableLine.check.Given as given
 

@@ -1,6 +1,6 @@
 use native.Mathlib.Omega.{arith}
 use Rattle.line.specs.Cable.{cableMessage}
-use Rattle.line.proofs.Dividing.{remainder-below}
+use Rattle.arithmetic.proofs.Dividing.{remainder-below}
 use Rattle.line.proofs.Cables.{cable-bits}
 use Rattle.line.proofs.cable.CableLine.the-impl.Needs as need
 

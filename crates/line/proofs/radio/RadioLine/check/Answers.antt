@@ -3,9 +3,9 @@ use mathlib.Core.Path.{_≡_, _∙_, ap}
 use mathlib.Core.List.{map}
 use Prim.Native.Nat.{_/_}
 use Rattle.line.specs.Values.{numbers}
-use Rattle.line.specs.Digits.{bitsOf}
+use Rattle.arithmetic.specs.Digits.{bitsOf}
 use Rattle.line.specs.Radio.{radioSymbol, radio, registerOver}
-use Rattle.line.proofs.Folds.{bitsOf-under}
+use Rattle.arithmetic.proofs.Folds.{bitsOf-under}
 use Rattle.line.proofs.Radios.{radio-step, radio-end}
 use Rattle.line.proofs.Registers.{register-remainder}
 use Rattle.line.proofs.radio.RadioLine.check.Needs as need

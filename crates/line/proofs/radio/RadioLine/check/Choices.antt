@@ -2,7 +2,7 @@ use mathlib.Core.Path.{_≡_}
 use mathlib.Core.List.{map}
 use lib.ListN.{drop}
 use Rattle.line.specs.Values.{numbers}
-use Rattle.line.specs.Digits.{bitsOf}
+use Rattle.arithmetic.specs.Digits.{bitsOf}
 use Rattle.line.specs.Radio.{radioSymbol, registerAfter, registerOver}
 use Rattle.line.proofs.radio.RadioLine.check.Given as given
 

@@ -1,8 +1,8 @@
 use native.Mathlib.Omega.{arith}
 use mathlib.Core.List.{map}
-use Rattle.line.specs.Digits.{bitsOf}
+use Rattle.arithmetic.specs.Digits.{bitsOf}
 use Rattle.line.specs.Radio.{radioSymbol}
-use Rattle.line.proofs.Folds.{bitsOf-under}
+use Rattle.arithmetic.proofs.Folds.{bitsOf-under}
 use Rattle.line.proofs.Radios.{symbol-byte, symbol-distinct}
 use Rattle.line.proofs.Registers.{register-below}
 use Rattle.line.proofs.radio.RadioLine.the-impl.Needs as need

@@ -1,0 +1,5 @@
+pub mod Bases
+pub mod Folds
+pub mod Sums
+pub mod Remainders
+pub mod Dividing

@@ -1,0 +1,5 @@
+// Numbers as digits in a base, and division of polynomials over two elements.
+mod divide;
+mod division;
+
+pub use division::Division;

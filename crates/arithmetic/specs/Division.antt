@@ -2,12 +2,14 @@
 -- Assumes nothing.
 use mathlib.Core.Path.{_≡_}
 use mathlib.Core.Bool.{cond}
-use mathlib.Core.List.{List}
+use mathlib.Core.List.{List, _++_}
 use Prim.Native.Nat.{ℕ, _+_, _*_, _^_, _<_}
 use lib.Bits.{bitXor}
 use lib.Dec.{ltb}
+use lib.ListN.{replicate}
 use Rattle.std.specs.Iters.{folded}
 use Rattle.std.specs.shelf.Digits.{Under}
+use Rattle.arithmetic.specs.Digits.{bitsOf}
 
 -- Long division by a divisor of the degree: x, of that degree at most, less the divisor where it has that degree.
 unfoldable pub reduced : ℕ → ℕ → ℕ → ℕ
@@ -19,6 +21,13 @@ remainderAfter degree divisor rest bits = folded (λ left bit. reduced degree di
 
 abbrev pub remainder : ℕ → ℕ → List ℕ → ℕ
 remainder degree divisor bits = remainderAfter degree divisor 0 bits
+
+-- What a check divides: numbers as bits, as many each as the divisor's degree, with as many zero bits behind them.
+abbrev pub checkMessage : ℕ → List ℕ → List ℕ
+checkMessage degree ns = bitsOf degree ns ++ replicate degree 0
+
+abbrev pub checkOf : ℕ → ℕ → List ℕ → ℕ
+checkOf degree divisor ns = remainder degree divisor (checkMessage degree ns)
 
 -- The product of a polynomial and one that is given by its bits, high bit first.
 abbrev pub product : ℕ → List ℕ → ℕ

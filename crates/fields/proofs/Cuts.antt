@@ -9,13 +9,13 @@ use lib.Arith.{digits-lt, digits-div, digits-mod}
 use lib.ListN.{length, getD, take, drop, set, replicate, length-set}
 use lib.Pow.{pow-add}
 use lib.Seq.{take-add}
-use Rattle.std.proofs.shelf.Bits.{div-below, mod-below}
-use Rattle.std.proofs.shelf.Digits.{number-push}
+use Rattle.std.proofs.shelf.Bits.{div-below, mod-below, div-add-mod'}
+use Rattle.std.proofs.shelf.Digits.{number-push, number-lt}
 use Rattle.std.proofs.shelf.Elements.{all-push}
 use Rattle.std.proofs.shelf.Lists.{length-take-le, length-drop, take-all, drop-all, drop-more, take-more-set}
 use Rattle.std.specs.shelf.Digits.{number, Under}
 use Rattle.arithmetic.specs.Digits.{digits}
-use Rattle.arithmetic.proofs.Bases.{number-append, number-cons, digits-again}
+use Rattle.arithmetic.proofs.Bases.{power-pos, number-append, number-cons, number-again, digits-again}
 use Rattle.fields.specs.Bodies.{bodyNumber, closedBlocks, fillingOf}
 
 -- the bits of a block and of what is left over around it
@@ -83,21 +83,24 @@ cut-more vs blocks seen k rest block rest′ hk hv hb hr ew e c =
 pub cut-none : (vs : List ℕ) → CutSoFar vs (replicate 3 0) 0 0
 cut-none vs = record { long = refl; below = omega arith; words = tt; whole = refl }
 
+-- the parts of a body's number
+pub body-parts : (n : ℕ) (blocks : List ℕ) (filling : ℕ) → Under (2 ^ 64) blocks → length blocks ≡ n → filling < 4 ^ n
+    → (closedBlocks n (bodyNumber n blocks filling) ≡ blocks) × (fillingOf n (bodyNumber n blocks filling) ≡ filling)
+body-parts n blocks filling words long below = (
+  ap (digits (2 ^ 64) n) (digits-div (number (2 ^ 64) blocks) below) ∙ ap (λ k. digits (2 ^ 64) k (number (2 ^ 64) blocks)) (sym long) ∙ digits-again (2 ^ 64) (omega arith) blocks words,
+  digits-mod (number (2 ^ 64) blocks) below,
+)
+
 -- all are
 pub cut-all : (vs blocks : List ℕ) (n k rest : ℕ) → n ≤ 3 → k ≡ n → length vs ≡ 11 * n → CutSoFar vs blocks k rest
     → (take n blocks ≡ closedBlocks n (number 64 vs)) × (rest ≡ fillingOf n (number 64 vs)) × (rest < 4 ^ n)
 cut-all vs blocks n k rest few ek ev c =
     let below : rest < 4 ^ n = subst (λ (j : ℕ). rest < 4 ^ j) ek (c .below) in
     let words : Under (2 ^ 64) (take n blocks) = subst (λ (j : ℕ). Under (2 ^ 64) (take j blocks)) ek (c .words) in
-    let long : length (take n blocks) ≡ n = length-take-le n blocks (omega (arith, c .long)) in
     let whole : number 64 vs ≡ bodyNumber n (take n blocks) rest =
     ap (number 64) (sym (take-all (11 * n) vs (omega arith))) ∙ subst (λ (j : ℕ). number 64 (take (11 * j) vs) ≡ bodyNumber j (take j blocks) rest) ek (c .whole) in
-    let blocks-number : number 64 vs / 4 ^ n ≡ number (2 ^ 64) (take n blocks) = ap (λ x. x / 4 ^ n) whole ∙ digits-div (number (2 ^ 64) (take n blocks)) below in
-    (
-      sym (ap (digits (2 ^ 64) n) blocks-number ∙ ap (λ j. digits (2 ^ 64) j (number (2 ^ 64) (take n blocks))) (sym long) ∙ digits-again (2 ^ 64) (omega arith) (take n blocks) words),
-      sym (ap (λ x. x % 4 ^ n) whole ∙ digits-mod (number (2 ^ 64) (take n blocks)) below),
-      below,
-    )
+    let parts = body-parts n (take n blocks) rest words (length-take-le n blocks (omega (arith, c .long))) below in
+    (sym (ap (closedBlocks n) whole ∙ parts .0), sym (ap (fillingOf n) whole ∙ parts .1), below)
 
 -- so many values hold as many blocks and two bits more for each
 pub room-of-blocks : (m : ℕ) → 64 ^ (11 * m) ≡ (2 ^ 64) ^ m * 4 ^ m
@@ -174,3 +177,15 @@ put-all n blocks vs filling k rest h lv u c =
     sym (ap (λ x. x * 64 ^ (11 * (n - 0)) + number 64 vs) none ∙ ap (λ x. x + number 64 vs) (zero-mul (64 ^ (11 * (n - 0)))) ∙ zero-add (number 64 vs))
     ∙ subst (λ (i : ℕ). rest * 64 ^ (11 * (n - i)) + number 64 (drop (11 * i) vs) ≡ bodyNumber n (drop i blocks) filling) z (c .whole) in
     sym (digits-again 64 (omega arith) vs u) ∙ ap (λ i. digits 64 i (number 64 vs)) lv ∙ ap (digits 64 (11 * n)) whole
+
+-- a body's number has as many values as its blocks ask for
+pub body-below : (n : ℕ) (blocks : List ℕ) (filling : ℕ) → Under (2 ^ 64) blocks → length blocks ≡ n → filling < 4 ^ n → bodyNumber n blocks filling < 64 ^ (11 * n)
+body-below n blocks filling words long below =
+    let most : number (2 ^ 64) blocks < (2 ^ 64) ^ n = subst (λ (k : ℕ). number (2 ^ 64) blocks < (2 ^ 64) ^ k) long (number-lt (2 ^ 64) blocks words) in
+    rw (room-of-blocks n) (digits-lt {q = number (2 ^ 64) blocks} {m = (2 ^ 64) ^ n} {r = filling} {c = 4 ^ n} most below)
+
+-- and is put together from its parts
+pub body-again : (n body : ℕ) → body < 64 ^ (11 * n) → bodyNumber n (closedBlocks n body) (fillingOf n body) ≡ body
+body-again n body h =
+    let front : body / 4 ^ n < (2 ^ 64) ^ n = div-below body (4 ^ n) ((2 ^ 64) ^ n) (power-pos 4 (omega arith) n) (subst (λ (m : ℕ). body < m) (room-of-blocks n) h) in
+    ap (λ x. x * 4 ^ n + body % 4 ^ n) (number-again (2 ^ 64) (omega arith) n (body / 4 ^ n) front) ∙ div-add-mod' body (4 ^ n)

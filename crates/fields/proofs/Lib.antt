@@ -1,3 +1,4 @@
 pub mod Places
 pub mod Cuts
 pub mod Made
+pub mod Layouts

@@ -1,5 +1,4 @@
 pub mod Codes
 pub mod Numbers
-pub mod Cables
 pub mod Radios
 pub mod Registers

@@ -2,11 +2,11 @@
 ghost use mathlib.Core.Path.{_≡_};
 ghost use Rattle.std.specs.shelf.Digits.{number};
 ghost use Rattle.line.specs.Values.{numberOf, numbers};
-ghost use Rattle.arithmetic.specs.Division.{IsRemainder};
-ghost use Rattle.line.specs.Cable.{cable, cableMessage};
+ghost use Rattle.arithmetic.specs.Division.{checkMessage, IsRemainder};
+ghost use Rattle.line.specs.Cable.{cable};
 use crate::Line;
-use arithmetic::Division;
 use crate::six_bit::SixBit;
+use arithmetic::Division;
 
 // Symbols are the 64 bytes from 0x30 on, and the check is a remainder.
 #[derive(Clone, Copy)]
@@ -30,7 +30,7 @@ pub impl Line for Cable as CableLine {
 
     fn check(&self, values: &[SixBit]) -> SixBit
         ensures value { λ r. ⌜ numberOf r ≡ cable .check (numbers (now (values .entry))) ⌝ }
-        ensures remainder { λ r. ⌜ IsRemainder 6 0x43 (number 2 (cableMessage (numbers (now (values .entry))))) (numberOf r) ⌝ }
+        ensures remainder { λ r. ⌜ IsRemainder 6 0x43 (number 2 (checkMessage 6 (numbers (now (values .entry))))) (numberOf r) ⌝ }
     {
         let mut division = Division {
             degree: 6,

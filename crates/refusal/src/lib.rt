@@ -7,6 +7,8 @@ ghost use Rattle.refusal.specs.Refusals.{textOf, shortBuffer};
 pub enum Layer {
     Call,
     Line,
+    Frame,
+    Body,
 }
 
 #[derive(Clone, Copy, PartialEq, Eq, Debug)]

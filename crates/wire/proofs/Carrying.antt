@@ -27,6 +27,7 @@ use Rattle.wire.specs.Values.{valuesIn}
 use Rattle.wire.specs.Calls.{Read, Written, Carried, CarriesBack}
 use Rattle.wire.specs.Refusing.{lineRefusal, carryRefusal, carried}
 use Rattle.refusal.specs.Outcomes.{unless, orElse}
+use Rattle.refusal.proofs.Firsts.{neither, unless-none, mapped-none}
 
 pub frame-least : (n : ℕ) → frameLength n ≡ true → 3 ≤ n
 frame-least n e = grind (arith, tells)
@@ -40,19 +41,6 @@ values-long vs n long e = let h = frame-most n e in rw (length-map, length-take-
 -- a frame's bytes written over the front of a buffer
 pub front-written : (code : LineCode) (vs : List SixBit) (n : ℕ) (was out : List ℕ) → length vs ≡ 48 → frameLength n ≡ true → 48 ≤ length was → out ≡ bytesOf code (numbers (take (n - 0) vs)) → Written code (numbers (take n vs)) was (out ++ postOf 0 (n - 0) was) (Ok n)
 front-written code vs n was out long e h eo = let z : n - 0 ≡ n = omega arith in (h, sym (values-long vs n long e), rw (eo, z))
-
--- of two refusals none applies only where neither does
-neither : {F : Type 0} (x y : Option F) → orElse x y ≡ None → (x ≡ None) × (y ≡ None)
-neither None y e = (refl, e)
-neither (Some f) y e = absurd (let z : _≡_ {A = ℕ} 0 1 = cc in omega arith)
-
-unless-none : {F : Type 0} (b : Bool) (f : F) → unless b f ≡ None → b ≡ true
-unless-none true f e = refl
-unless-none false f e = absurd (let z : _≡_ {A = ℕ} 0 1 = cc in omega arith)
-
-mapped-none : {A B : Type 0} (f : A → B) (o : Option A) → mapped f o ≡ None → o ≡ None
-mapped-none f None e = refl
-mapped-none f (Some x) e = absurd (let z : _≡_ {A = ℕ} 0 1 = cc in omega arith)
 
 -- what a frame that is not refused has
 pub record Sound (code : LineCode) (bytes : List ℕ) : Type 0 where
@@ -124,19 +112,23 @@ module _ (code : LineCode) (lawful : Lawful code) where
 pub carried-long : (a b : LineCode) (bytes : List ℕ) → length (carried a b bytes) ≡ length bytes
 carried-long a b bytes = rw (length-map, length-set, length-map)
 
+-- whatever stands at the check's place of a sound frame, the line's own check comes to stand there again
+pub check-restored : (code : LineCode) (bytes : List ℕ) → Sound code bytes → (c : ℕ) → withCheck code (set (valuesOf code bytes) 2 c) ≡ valuesOf code bytes
+check-restored code bytes s c =
+    let vs = valuesOf code bytes in
+    ap (λ ds. set (set vs 2 c) 2 (code .check ds)) (drop-set-lt 3 vs 2 c (omega arith))
+    ∙ set-set vs 2 c (checkOver code vs)
+    ∙ ap (set vs 2) (sym (eqb-true (getD vs 2 0) (checkOver code vs) (s .check)))
+    ∙ set-getD vs 2 0
+
 module _ (a b : LineCode) (lawful : Lawful b) (bytes : List ℕ) (s : Sound a bytes) where
   carried-accepted : lineRefusal b (carried a b bytes) ≡ None
   carried-accepted = accepted b (carried a b bytes) (written-sound b lawful (valuesOf a bytes) (values-under a bytes) (rw length-map (s .whole)))
 
-  -- over another line's check the first line's own comes to stand again
   carried-back : carried b a (carried a b bytes) ≡ bytes
   carried-back =
       let vs = valuesOf a bytes in
-      let h : 3 ≤ length bytes = frame-least (length bytes) (s .whole) in
-      let behind : drop 3 (withCheck b vs) ≡ drop 3 vs = drop-set-lt 3 vs 2 (checkOver b vs) (omega arith) in
-      let restored : withCheck a (withCheck b vs) ≡ vs =
-      ap (λ ds. set (withCheck b vs) 2 (a .check ds)) behind ∙ set-set vs 2 (checkOver b vs) (checkOver a vs) ∙ ap (set vs 2) (sym (eqb-true (getD vs 2 0) (checkOver a vs) (s .check))) ∙ set-getD vs 2 0 in
-      ap (bytesOf a) (written-reads b lawful vs (values-under a bytes)) ∙ ap (map (a .symbol)) restored ∙ bytes-again a 0 bytes (s .symbols)
+      ap (bytesOf a) (written-reads b lawful vs (values-under a bytes)) ∙ ap (map (a .symbol)) (check-restored a bytes s (checkOver b vs)) ∙ bytes-again a 0 bytes (s .symbols)
 
   -- the same of the front of a buffer that they were written to
   front-back : (n : ℕ) (out tail : List ℕ) → n ≡ length bytes → out ≡ carried a b bytes ++ tail → CarriesBack a b bytes out (Ok n)

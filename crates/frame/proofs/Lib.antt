@@ -1,0 +1,4 @@
+pub mod Blocks
+pub mod Sealing
+pub mod Laws
+pub mod Outcomes

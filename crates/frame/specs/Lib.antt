@@ -1,0 +1,4 @@
+pub mod Payloads
+pub mod Frames
+pub mod Refusing
+pub mod Calls

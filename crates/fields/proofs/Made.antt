@@ -2,7 +2,7 @@
 use mathlib.Core.Path.{_≡_, ap, sym, _∙_}
 use mathlib.Core.Bool.{true, cond}
 use mathlib.Core.List.{List, _++_}
-use Prim.Native.Nat.{ℕ, _+_, _*_, _≤_}
+use Prim.Native.Nat.{ℕ, _+_, _-_, _*_, _/_, _≤_}
 use native.Mathlib.Omega.{arith}
 use lib.ListN.{length, take}
 use Rattle.std.proofs.shelf.Lists.{take-at}
@@ -18,6 +18,10 @@ use Rattle.wire.specs.Values.{valuesIn}
 
 pub blocks-length : (n : ℕ) → 1 ≤ n → n ≤ 3 → frameLength (15 + 11 * n) ≡ true
 blocks-length n some few = grind (arith, tells)
+
+-- how many blocks a frame of so many values has
+pub blocks-counted : (m : ℕ) → frameLength m ≡ true → (m ≡ 15 + 11 * ((m - 15) / 11)) × (1 ≤ (m - 15) / 11) × ((m - 15) / 11 ≤ 3)
+blocks-counted m e = (grind (arith, tells), grind (arith, tells), grind (arith, tells))
 
 -- the frame of values at the front of others
 pub made-frame : (o : Option FrameValues) (frame : FrameValues) (vs rest : List SixBit) (count : ℕ) (ns : List ℕ) → o ≡ Some frame → frameLength count ≡ true → length vs ≡ count → numbers vs ≡ ns

@@ -89,6 +89,16 @@ fn cut_body(size: usize, values: &[SixBit]) -> Body
     }
 }
 
+// The values of a frame's body.
+fn body_values(frame: &FrameValues) -> &[SixBit]
+    ensures values { λ r. ⌜ numbers (now r) ≡ bodyIn (valuesIn (now (frame .entry))) ⌝ }
+    ensures long { λ r. ⌜ length (now r) ≡ 11 * blocksIn (valuesIn (now (frame .entry))) ⌝ }
+    ensures some { λ r. ⌜ 1 ≤ blocksIn (valuesIn (now (frame .entry))) ⌝ }
+    ensures few { λ r. ⌜ blocksIn (valuesIn (now (frame .entry))) ≤ 3 ⌝ }
+{
+    &frame.as_slice()[15..]
+}
+
 impl Body {
     // The body of a frame.
     pub fn read(frame: &FrameValues) -> Body
@@ -96,7 +106,7 @@ impl Body {
         ensures blocks { λ r. ⌜ blocksOf r ≡ closedBlocks (r .size) (number 64 (bodyIn (valuesIn (now (frame .entry))))) ⌝ }
         ensures filling { λ r. ⌜ r .filling ≡ fillingOf (r .size) (number 64 (bodyIn (valuesIn (now (frame .entry))))) ⌝ }
     {
-        let values = frame.as_slice();
-        cut_body((values.len() - 15) / 11, &values[15..])
+        let values = body_values(frame);
+        cut_body(values.len() / 11, values)
     }
 }

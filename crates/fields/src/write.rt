@@ -70,12 +70,18 @@ fn put_frame(header: &Header, body: &Body, values: &mut [SixBit])
     put_body(body, &mut values[15..]);
 }
 
+fn assembled(header: &Header, body: &Body, count: usize) -> FrameValues
+    requires { ⌜ count ≡ 15 + 11 * now body .size ⌝ }
+    ensures { λ r. ⌜ valuesIn r ≡ frameOf (now (header .entry)) (now (body .entry) .size) (bodyNumber (now (body .entry) .size) (blocksOf (now (body .entry))) (now (body .entry) .filling)) ⌝ }
+{
+    let mut values = FrameValues::room();
+    put_frame(header, body, &mut values[0..count]);
+    FrameValues::new(values, count).unwrap()
+}
+
 // The values of a frame with this header and this body; a number that does not fit its field is cut to its last digits.
 pub fn frame_values(header: &Header, body: &Body) -> FrameValues
     ensures { λ r. ⌜ valuesIn r ≡ frameOf (now (header .entry)) (now (body .entry) .size) (bodyNumber (now (body .entry) .size) (blocksOf (now (body .entry))) (now (body .entry) .filling)) ⌝ }
 {
-    let count = 15 + 11 * body.size;
-    let mut values = FrameValues::room();
-    put_frame(header, body, &mut values[0..count]);
-    FrameValues::new(values, count).unwrap()
+    assembled(header, body, 15 + 11 * body.size)
 }

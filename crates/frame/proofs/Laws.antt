@@ -29,7 +29,7 @@ use Rattle.fields.specs.declared.header.Header.{Header}
 use Rattle.fields.specs.Types.{typeOf}
 use Rattle.fields.specs.Layout.{headerOf, headerValues, bodyIn, blocksIn, frameOf}
 use Rattle.fields.specs.Bodies.{bodyNumber, closedBlocks, fillingOf}
-use Rattle.fields.proofs.Made.{blocks-length}
+use Rattle.fields.proofs.Made.{blocks-length, blocks-counted}
 use Rattle.fields.proofs.Cuts.{body-parts, body-below, body-again}
 use Rattle.fields.proofs.Layouts.{Fits, header-again, header-read, header-long, header-under}
 use Rattle.frame.specs.declared.fault.FrameFault.{FrameFault}
@@ -39,10 +39,6 @@ use Rattle.frame.specs.Frames.{Wire, Fields, payloadOf, fieldsOf, sealedBody, 
 use Rattle.frame.specs.Refusing.{typeAndSize, headerRefusal, frameRefusal, openRefusal, headerFits, buildable}
 use Rattle.frame.proofs.Blocks.{technique-fits}
 use Rattle.frame.proofs.Sealing.{closed-under, closed-long, opened-closed, closed-opened}
-
--- what the number of a frame's values says of its blocks
-blocks-counted : (m : ℕ) → frameLength m ≡ true → (m ≡ 15 + 11 * ((m - 15) / 11)) × (1 ≤ (m - 15) / 11) × ((m - 15) / 11 ≤ 3)
-blocks-counted m e = (grind (arith, tells), grind (arith, tells), grind (arith, tells))
 
 -- all that is so of a frame that opens
 record Opens (wire : Wire) (network destination : ℕ) (bytes : List ℕ) : Type 0 where

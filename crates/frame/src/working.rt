@@ -27,6 +27,6 @@ impl WorkingBytes<'_> {
     pub fn keep(self)
         ensures { λ _. ⌜ now (self .exit .0) ≡ now (self .entry .bytes) ⌝ }
     {
-        let WorkingBytes { bytes: _ } = self;
+        let WorkingBytes { bytes: _kept } = self;
     }
 }

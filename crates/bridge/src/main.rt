@@ -1,6 +1,5 @@
 // Reads lines of cable frames and prints the radio frame of each, or why it is refused.
 use answer::answer_to;
-use answer::frame_in;
 use line::Radio;
 use std::io;
 use std::io::BufRead;
@@ -8,6 +7,7 @@ use std::io::BufReader;
 use std::io::Write;
 use tally::Tally;
 use tally::TallyDisplay;
+use text::frame_in;
 
 mod answer;
 mod tally;

@@ -41,12 +41,13 @@ use Rattle.frame.proofs.Blocks.{technique-fits}
 use Rattle.frame.proofs.Sealing.{closed-under, closed-long, opened-closed, closed-opened}
 
 -- all that is so of a frame that opens
-record Opens (wire : Wire) (network destination : ℕ) (bytes : List ℕ) : Type 0 where
-  sound : Sound (wire .line) bytes
-  size : headerOf (valuesOf (wire .line) bytes) .size ≡ blocksIn (valuesOf (wire .line) bytes)
-  filling : fillingOf (blocksIn (valuesOf (wire .line) bytes)) (number 64 (bodyIn (valuesOf (wire .line) bytes))) ≡ sealFilling (wire .seal) (blocksIn (valuesOf (wire .line) bytes))
+pub record Opens (wire : Wire) (network destination : ℕ) (bytes : List ℕ) : Type 0 where
+  pub sound : Sound (wire .line) bytes
+  pub known : isSome (typeOf (headerOf (valuesOf (wire .line) bytes) .«frame_type»)) ≡ true
+  pub size : headerOf (valuesOf (wire .line) bytes) .size ≡ blocksIn (valuesOf (wire .line) bytes)
+  pub filling : fillingOf (blocksIn (valuesOf (wire .line) bytes)) (number 64 (bodyIn (valuesOf (wire .line) bytes))) ≡ sealFilling (wire .seal) (blocksIn (valuesOf (wire .line) bytes))
 
-opens : (wire : Wire) (network destination : ℕ) (bytes : List ℕ) → openRefusal wire network destination bytes ≡ None → Opens wire network destination bytes
+pub opens : (wire : Wire) (network destination : ℕ) (bytes : List ℕ) → openRefusal wire network destination bytes ≡ None → Opens wire network destination bytes
 opens wire network destination bytes e =
     let vs = valuesOf (wire .line) bytes in
     let n = blocksIn vs in
@@ -58,6 +59,7 @@ opens wire network destination bytes e =
     let known = and-parts (isSome (typeOf (h .«frame_type»))) (eqb (h .size) n) (unless-none (typeAndSize h n) TypeOrSize (kinds .0)) in
     record {
       sound = sound (wire .line) bytes (mapped-none Line (lineRefusal (wire .line) bytes) (lines .0));
+      known = known .0;
       size = eqb-true (h .size) n (known .1);
       filling = eqb-true (fillingOf n (number 64 (bodyIn vs))) (sealFilling (wire .seal) n) (unless-none (eqb (fillingOf n (number 64 (bodyIn vs))) (sealFilling (wire .seal) n)) Technique (kinds .1));
     }

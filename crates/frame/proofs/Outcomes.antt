@@ -1,7 +1,7 @@
 -- What the calls answer, from what their parts answer. Assumes nothing.
 use mathlib.Core.Path.{_≡_, refl, ap, sym, _∙_, subst}
 use mathlib.Core.Bool.{true, cond, _&&_}
-use mathlib.Core.List.{List, _∷_, _++_}
+use mathlib.Core.List.{List, _∷_, _++_, append-assoc}
 use Prim.Native.Nat.{ℕ, zero, suc, _+_, _-_, _*_, _^_, _<_, _≤_}
 use native.Mathlib.Omega.{arith}
 use lib.Dec.{leb, ltb, eqb}
@@ -18,7 +18,7 @@ use Rattle.refusal.specs.Outcomes.{unless, orElse}
 use Rattle.refusal.proofs.Firsts.{neither, unless-none}
 use Rattle.arithmetic.proofs.Bases.{length-digits}
 use Rattle.line.specs.Code.{Lawful as LawfulLine}
-use Rattle.wire.specs.Frames.{frameRoom, valuesOf, bytesOf as symbolsOf}
+use Rattle.wire.specs.Frames.{frameRoom, frameLength, valuesOf, bytesOf as symbolsOf}
 use Rattle.wire.specs.Calls.{Written}
 use Rattle.seal.specs.Code.{Lawful as LawfulSeal}
 use Rattle.fields.specs.declared.body.Body.{Body}
@@ -26,13 +26,14 @@ use Rattle.fields.specs.declared.header.Header.{Header}
 use Rattle.fields.specs.Types.{typeOf}
 use Rattle.fields.specs.Layout.{bodyIn, blocksIn, frameOf}
 use Rattle.fields.specs.Bodies.{bodyNumber, closedBlocks, blocksOf}
+use Rattle.fields.proofs.Made.{blocks-counted}
 use Rattle.frame.specs.declared.fault.FrameFault.{FrameFault}
 use Rattle.frame.specs.declared.fault.FrameFault.the-variants.{Buffer, TypeOrSize, OutOfRange}
 use Rattle.frame.specs.Payloads.{withCheckByte, closedFrom, openedFrom, sealFilling}
 use Rattle.frame.specs.Frames.{Wire, Fields, IsClosed, payloadOf, fieldsOf, sealedBody, bytesOf}
 use Rattle.frame.specs.Refusing.{workingRoom, openRefusal, roomRefusal, headerFits, buildable, buildRefusal}
-use Rattle.frame.specs.Calls.{filled, OpenedInto, holding, cleared, Opened, OpensAlone, fieldsWith, Built, OpensAgain, BuiltAlone}
-use Rattle.frame.proofs.Laws.{opened-again, opened-alone, Buildable, frame-long, built-fields, built-opens}
+use Rattle.frame.specs.Calls.{filled, OpenedInto, holding, cleared, Opened, WellFormed, OpensAlone, fieldsWith, Built, OpensAgain, BuiltAlone}
+use Rattle.frame.proofs.Laws.{opens, opened-again, opened-alone, Buildable, frame-long, built-fields, built-opens}
 
 -- a closed frame whose blocks were opened into the working bytes
 pub opened-into : (wire : Wire) (network destination : ℕ) (bytes : List ℕ) (header : Header) (body : Body) (after : List ℕ) → openRefusal wire network destination bytes ≡ None
@@ -64,6 +65,21 @@ opened-front wire network destination bytes before work (Err fault) h o = (
   ap (λ t. orElse (unless t (Buffer (record {}))) (openRefusal wire network destination bytes)) (le-leb workingRoom (length before) h) ∙ o .0,
   ap (λ bs. bs ++ drop workingRoom before) (o .1) ∙ sym (ap (λ t. cond t (replicate workingRoom 0 ++ drop workingRoom before) before) (le-leb workingRoom (length before) h)),
 )
+
+-- the payload in the working bytes
+pub held-payload : (payload before : List ℕ) (n : ℕ) → length payload ≡ n → take n (holding payload before) ≡ payload
+held-payload payload before n long =
+    let zeros = replicate (workingRoom - length payload) 0 in
+    ap (take n) (append-assoc payload zeros (drop workingRoom before)) ∙ take-at payload (zeros ++ drop workingRoom before) n long
+
+pub well-formed : (wire : Wire) (network destination : ℕ) (bytes work : List ℕ) (r : Result Header FrameFault) → OpenedInto wire network destination bytes work r → WellFormed wire bytes r
+well-formed wire network destination bytes work (Ok header) e =
+    let o = opens wire network destination bytes (e .0) in
+    let vs = valuesOf (wire .line) bytes in
+    let size : header .size ≡ blocksIn vs = ap (λ h. h .size) (e .1) ∙ o .size in
+    let counted = blocks-counted (length vs) (ap frameLength (length-map bytes _) ∙ o .sound .whole) in
+    (ap (λ h. isSome (typeOf (h .«frame_type»))) (e .1) ∙ o .known, omega (arith, counted .1), omega (arith, counted .2), length-digits 256 (8 * blocksIn vs) _ ∙ ap (λ n. 8 * n) (sym size))
+well-formed wire network destination bytes work (Err fault) e = tt
 
 pub opens-alone : (wire : Wire) → LawfulSeal (wire .seal) → (network destination : ℕ) (bytes work : List ℕ) (r : Result Header FrameFault) → OpenedInto wire network destination bytes work r → OpensAlone wire network destination bytes r
 opens-alone wire lawful network destination bytes work (Ok header) o =

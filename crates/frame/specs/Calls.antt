@@ -1,14 +1,16 @@
 -- What opening and building a frame answer, and what they leave in a buffer. Assumes nothing.
 use mathlib.Core.Path.{_≡_}
-use mathlib.Core.Bool.{cond}
+use mathlib.Core.Bool.{true, cond}
 use mathlib.Core.List.{List, _++_}
-use Prim.Native.Nat.{ℕ, _+_, _-_, _*_}
+use Prim.Native.Nat.{ℕ, _+_, _-_, _*_, _≤_}
 use lib.Dec.{leb}
 use lib.ListN.{length, take, drop, replicate}
+use Rattle.std.specs.Options.{isSome}
 use Rattle.std.specs.declared.option.Option.the-variants.{None, Some}
 use Rattle.std.specs.declared.result.Result.{Result}
 use Rattle.std.specs.declared.result.Result.the-variants.{Ok, Err}
 use Rattle.fields.specs.declared.header.Header.{Header}
+use Rattle.fields.specs.Types.{typeOf}
 use Rattle.frame.specs.declared.fault.FrameFault.{FrameFault}
 use Rattle.frame.specs.Payloads.{withCheckByte}
 use Rattle.frame.specs.Frames.{Wire, Fields, fieldsOf, bytesOf}
@@ -38,6 +40,12 @@ Opened wire network destination bytes before after (Ok header) =
     (roomRefusal workingRoom (length before) (openRefusal wire network destination bytes) ≡ None) × (header ≡ fieldsOf wire bytes .header) × (after ≡ holding (fieldsOf wire bytes .payload) before)
 Opened wire network destination bytes before after (Err fault) =
     (roomRefusal workingRoom (length before) (openRefusal wire network destination bytes) ≡ Some fault) × (after ≡ cleared before)
+
+-- What opens has a known type and one to three blocks, and its payload eight bytes for each of them.
+abbrev pub WellFormed : Wire → List ℕ → Result Header FrameFault → Type 0
+WellFormed wire bytes (Ok header) =
+    (isSome (typeOf (header .«frame_type»)) ≡ true) × (1 ≤ header .size) × (header .size ≤ 3) × (length (fieldsOf wire bytes .payload) ≡ 8 * header .size)
+WellFormed wire bytes (Err fault) = Unit {0}
 
 -- What opens is the run of bytes of its fields, and so no other run opens to them.
 abbrev pub OpensAlone : Wire → ℕ → ℕ → List ℕ → Result Header FrameFault → Type 0

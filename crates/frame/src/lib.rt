@@ -94,7 +94,10 @@ mod tests {
         let seal = Xtea::new(&[0x33; 16]);
         check_eq(build(&radio, &seal, &HEADER, behind, &mut out), Ok(26))?;
         let mut work = [0xEE; 24];
-        check_eq(open(&radio, &seal, 1, 2, &out[0..26], &mut work), Ok(HEADER))?;
+        check_eq(
+            open(&radio, &seal, 1, 2, &out[0..26], &mut work),
+            Ok(HEADER),
+        )?;
         check(work[1..8] == behind[0..7])
     }
 }

@@ -4,7 +4,8 @@ use mathlib.Core.List.{List, [], _∷_, _++_}
 use Prim.Native.Nat.{ℕ, zero, suc, _+_, _*_, _/_, _%_, _^_, _<_, _≤_}
 use native.Mathlib.Omega.{arith}
 use native.Mathlib.Nat.{pow-suc, pow-zero, mul-assoc, mul-comm, mul-one, add-mul, add-assoc, zero-add, zero-mul, suc-add, mul-pos, mod-lt, mod-eq-of-lt, add-mul-div-right, mul-add-mod-self-right, div-div-eq-div-mul}
-use lib.Arith.{digits-div, mod-mul}
+use native.Mathlib.Numerals.{add-one}
+use lib.Arith.{digits-lt, digits-div, mod-mul}
 use lib.ListN.{length}
 use lib.Pow.{pow-add}
 use Rattle.std.specs.shelf.Digits.{number, numberAfter, Under}
@@ -40,6 +41,10 @@ number-append b xs ys = after 0 xs
 
 pub number-cons : (b d : ℕ) (ds : List ℕ) → number b (d ∷ ds) ≡ d * b ^ length ds + number b ds
 number-cons b d ds = ap (λ x. numberAfter b (x + d) ds) (zero-mul b) ∙ ap (λ x. numberAfter b x ds) (zero-add d) ∙ number-after b d ds
+
+-- one more digit behind a number of i digits
+pub more-below : (b i n d : ℕ) → n < b ^ i → d < b → n * b + d < b ^ (i + 1)
+more-below b i n d h few = rw (add-one, pow-suc) (digits-lt {q = n} {m = b ^ i} {r = d} {c = b} h few)
 
 module _ (b : ℕ) (some : 0 < b) where
   pub power-pos : (k : ℕ) → 0 < b ^ k

@@ -4,7 +4,6 @@ use mathlib.Core.List.{List, [], _∷_, _++_, map-append, append-nil}
 use Prim.Native.Nat.{ℕ, suc, _+_, _-_, _*_, _/_, _%_, _^_, _<_, _≤_}
 use native.Mathlib.Omega.{arith}
 use native.Mathlib.Nat.{pow-suc, pow-le-pow-right, div-div-eq-div-mul}
-use native.Mathlib.Numerals.{add-one}
 use borrow.Rule.Slice.PartMut.{putMid}
 use lib.ListN.{length, getD, take, drop, set, length-set}
 use Rattle.std.proofs.shelf.Lists.{drop-more, drop-all, drop-map, take-map, take-at, drop-at, drop-drop, drop-set, map-set, length-map, length-take-le, length-drop}
@@ -18,9 +17,6 @@ use Rattle.line.proofs.Numbers.{number-at}
 -- a number of few values leaves room for one more
 pub room : (i sum : ℕ) → i < 11 → sum < 64 ^ i → sum < 64 ^ 10
 room i sum h s = let p = pow-le-pow-right {n = 64} (omega arith) {i = i} {j = 10} (omega arith) in omega arith
-
-pub more-below : (i sum n : ℕ) → sum < 64 ^ i → n < 64 → sum * 64 + n < 64 ^ (i + 1)
-more-below i sum n s h = rw (add-one, pow-suc) (omega arith)
 
 -- one more value read
 pub number-more : (vs : List SixBit) (v : SixBit) (i sum n whole : ℕ) → i < length vs → v ≡ getD vs i v → n ≡ numberOf v

@@ -8,5 +8,5 @@ pub more : {now before was piece is : List ℕ} → now ≡ before ++ piece → 
 more {now} {before} {was} {piece} {is} e known same = e ∙ ap (λ t. t ++ piece) known ∙ ap (λ p. was ++ p) same
 
 -- a value with its label in front of it
-pub labelled-more : (label : List ℕ) {now before was value is : List ℕ} → now ≡ before ++ (label ++ value) → before ≡ was → value ≡ is → now ≡ was ++ (label ++ is)
-labelled-more label e known same = more e known (ap (λ v. label ++ v) same)
+pub labelled-more : (label : List ℕ) {now before was value is : List ℕ} → now ≡ before ++ label ++ value → before ≡ was → value ≡ is → now ≡ was ++ label ++ is
+labelled-more label e known same = more e (ap (λ t. t ++ label) known) same

@@ -37,11 +37,16 @@ typeName (Some Nack) = codes "NACK"
 abbrev pub headerLine : Header → List ℕ
 headerLine header =
     typeName (typeOf (header .«frame_type»))
-    ++ (codes " frame of size " ++ hex 1 (header .size))
-    ++ (codes " from 0x" ++ hex 3 (header .source))
-    ++ (codes " to 0x" ++ hex 3 (header .destination))
-    ++ (codes ", network 0x" ++ hex 9 (header .network))
-    ++ (codes ", repeater 0x" ++ hex 3 (header .repeater))
+    ++ codes " frame of size "
+    ++ hex 1 (header .size)
+    ++ codes " from 0x"
+    ++ hex 3 (header .source)
+    ++ codes " to 0x"
+    ++ hex 3 (header .destination)
+    ++ codes ", network 0x"
+    ++ hex 9 (header .network)
+    ++ codes ", repeater 0x"
+    ++ hex 3 (header .repeater)
     ++ codes "\n"
 
 -- Bytes 1 and 2 are the message ID of 12 bits and the kind of 4 bits.
@@ -53,8 +58,10 @@ kindOf payload = getD payload 2 0 % 16
 
 abbrev pub contentLine : List ℕ → List ℕ
 contentLine payload =
-    (codes "  message ID 0x" ++ hex 3 (messageId payload))
-    ++ (codes ", kind 0x" ++ hex 1 (kindOf payload))
+    codes "  message ID 0x"
+    ++ hex 3 (messageId payload)
+    ++ codes ", kind 0x"
+    ++ hex 1 (kindOf payload)
     ++ codes ", content"
     ++ joined (λ b. 0x20 ∷ hex 2 b) (drop 3 payload)
     ++ codes "\n"
@@ -62,10 +69,10 @@ contentLine payload =
 -- whether byte 0 is the remainder of the bytes behind it
 abbrev pub verdict : Bool → ℕ → List ℕ
 verdict true right = codes ", as it should be\n"
-verdict false right = (codes ", but should be 0x" ++ hex 2 right) ++ codes "\n"
+verdict false right = codes ", but should be 0x" ++ hex 2 right ++ codes "\n"
 
 abbrev pub checkLine : List ℕ → List ℕ
-checkLine payload = (codes "  byte 0 is 0x" ++ hex 2 (getD payload 0 0)) ++ verdict (eqb (getD payload 0 0) (checkByte (drop 1 payload))) (checkByte (drop 1 payload))
+checkLine payload = codes "  byte 0 is 0x" ++ hex 2 (getD payload 0 0) ++ verdict (eqb (getD payload 0 0) (checkByte (drop 1 payload))) (checkByte (drop 1 payload))
 
 abbrev pub explained : Fields → List ℕ
 explained fields = headerLine (fields .header) ++ contentLine (fields .payload) ++ checkLine (fields .payload)
@@ -92,7 +99,7 @@ words Technique = codes "the technique is another, or a filling bit is set"
 words OutOfRange = codes "a header field is out of range"
 
 abbrev pub refusedLine : FrameFault → List ℕ
-refusedLine fault = textOf (frameRefused fault) ++ (codes ", " ++ layerName (frameRefused fault .layer)) ++ (codes ": " ++ words fault) ++ codes "\n"
+refusedLine fault = textOf (frameRefused fault) ++ codes ", " ++ layerName (frameRefused fault .layer) ++ codes ": " ++ words fault ++ codes "\n"
 
 -- the cable with the plain seal
 abbrev pub plainCable : Wire

@@ -3,8 +3,7 @@ use mathlib.Core.Path.{_≡_, refl}
 use mathlib.Core.List.{List}
 use Prim.Native.Nat.{ℕ, _+_, _-_, _*_, _^_, _<_, _≤_}
 use native.Mathlib.Omega.{arith}
-use native.Mathlib.Nat.{pow-suc, pow-le-pow-right, lt-of-lt-of-le}
-use native.Mathlib.Numerals.{add-one}
+use native.Mathlib.Nat.{pow-le-pow-right, lt-of-lt-of-le}
 use lib.ListN.{length, getD, take, drop}
 use Rattle.std.proofs.shelf.Lists.{drop-more, drop-all, take-rest}
 use Rattle.std.proofs.shelf.Ways.{tells}
@@ -20,10 +19,6 @@ prefix-off text first second = rw (first, second) (take-rest text 2)
 
 pub digit-below : (c d : ℕ) → digitValue c ≡ Some d → d < 16
 digit-below c d e = grind (arith, tells)
-
--- a number of i digits, and one more behind it
-pub more-below : (i n d : ℕ) → n < 16 ^ i → d < 16 → n * 16 + d < 16 ^ (i + 1)
-more-below i n d h k = rw (add-one, pow-suc) (omega arith)
 
 -- up to fifteen digits leave room for one more
 pub fifteen-below : (i n : ℕ) → n < 16 ^ i → i < 16 → n < 2 ^ 60

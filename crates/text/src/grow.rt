@@ -12,16 +12,9 @@ pub fn appended(mut text: Vec<u8>, more: &[u8]) -> Result<Vec<u8>, AllocError>
     Ok(text)
 }
 
-// Two pieces behind a text, one behind the other.
-pub(crate) fn behind(text: Vec<u8>, first: &[u8], second: &[u8]) -> Result<Vec<u8>, AllocError>
-    ensures { λ r. ⌜ made r (λ t. vec-items t ≡ vec-items text ++ (now (first .entry) ++ now (second .entry))) ⌝ }
-{
-    appended(appended(text, first)?, second)
-}
-
 // A value behind a text, with its label in front of it.
 pub fn labelled(text: Vec<u8>, label: &[u8], value: &[u8]) -> Result<Vec<u8>, AllocError>
-    ensures { λ r. ⌜ made r (λ t. vec-items t ≡ vec-items text ++ (now (label .entry) ++ now (value .entry))) ⌝ }
+    ensures { λ r. ⌜ made r (λ t. vec-items t ≡ vec-items text ++ now (label .entry) ++ now (value .entry)) ⌝ }
 {
-    behind(text, label, value)
+    appended(appended(text, label)?, value)
 }

@@ -6,7 +6,7 @@ ghost use Rattle.std.specs.Joined.{joined};
 ghost use Rattle.std.specs.Of.Vec.{vec-items};
 ghost use Rattle.std.specs.Vec.{made};
 ghost use Rattle.text.specs.Hexadecimal.{hexDigit, hex};
-use crate::grow::behind;
+use crate::grow::labelled;
 use std::alloc::AllocError;
 use std::alloc::Global;
 
@@ -78,7 +78,7 @@ fn with_bytes(mut text: Vec<u8>, front: &[u8], bytes: &[u8]) -> Result<Vec<u8>, 
     ensures { λ r. ⌜ made r (λ t. vec-items t ≡ vec-items text ++ joined (λ b. now (front .entry) ++ hex 2 b) (now (bytes .entry))) ⌝ }
 {
     for byte in bytes {
-        text = behind(text, front, &hex2(*byte))?;
+        text = labelled(text, front, &hex2(*byte))?;
     }
     Ok(text)
 }

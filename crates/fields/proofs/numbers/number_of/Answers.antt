@@ -1,10 +1,10 @@
 use borrow.Author.Needs.{needs}
 use native.Mathlib.Omega.{arith}
-use Prim.Native.Nat.{_<_}
 use mathlib.Core.Path.{_≡_, subst}
-use Prim.Native.Nat.{ℕ, _^_}
+use Prim.Native.Nat.{ℕ, _^_, _<_}
 use lib.ListN.{length}
-use Rattle.fields.proofs.Places.{room, more-below, number-more, number-all}
+use Rattle.arithmetic.proofs.Bases.{more-below}
+use Rattle.fields.proofs.Places.{room, number-more, number-all}
 use Rattle.fields.proofs.numbers.number_of.Needs as need
 
 pub mul-sum : need.mul-sum
@@ -17,7 +17,7 @@ pub loop-value-again : need.loop-value-again
 loop-value-again c =
     let small : c .get .result < 64 = omega (arith, c .get .ensures, c .value-item .result .small) in (
       number-more (c .args .values .now) (c .value-item .result) (c .loop-value .value-index) (c .loop-value .sum) (c .get .result) _ (omega arith) (c .value-item .is) (c .get .ensures) (c .loop-value .inv .0),
-      more-below (c .loop-value .value-index) (c .loop-value .sum) (c .get .result) (c .loop-value .inv .1) small,
+      more-below 64 (c .loop-value .value-index) (c .loop-value .sum) (c .get .result) (c .loop-value .inv .1) small,
     )
 
 pub returns : need.returns

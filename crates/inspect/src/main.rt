@@ -13,6 +13,9 @@ mod expect;
 mod explain;
 mod words;
 
+const USAGE: &str =
+    "give the network ID and the DID expected, in hexadecimal: inspect NETWORK DID < frames";
+
 // What the two arguments behind the program's name tell.
 fn expected(rt: &LibcRuntime) -> Result<Expected, AnyError> {
     let mut words = env::args(rt)?;
@@ -25,8 +28,6 @@ fn expected(rt: &LibcRuntime) -> Result<Expected, AnyError> {
         None => Err(USAGE.into()),
     }
 }
-
-const USAGE: &str = "usage: inspect NETWORK DID (in hexadecimal, of 36 and 12 bits) < frames";
 
 fn run(rt: &LibcRuntime) -> Result<(), AnyError> {
     let heap = rt.alloc();
@@ -45,5 +46,9 @@ fn run(rt: &LibcRuntime) -> Result<(), AnyError> {
 }
 
 fn main(rt: LibcRuntime) -> Result<(), AnyError> {
-    rt.report(run(&rt))
+    let ended = run(&rt);
+    if let Err(error) = &ended {
+        let _ = eprintln!(rt, "inspect: {error}");
+    }
+    ended
 }

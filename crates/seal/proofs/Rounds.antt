@@ -1,13 +1,15 @@
 -- Half rounds are taken back one by one, the last first, so XTEA is a lawful seal. Assumes nothing.
-use mathlib.Core.Path.{_≡_, refl, ap, _∙_}
+use mathlib.Core.Path.{_≡_, refl, ap, sym, _∙_, subst}
 use mathlib.Core.List.{List}
 use Prim.Native.Nat.{ℕ, zero, suc, _+_, _-_, _*_, _/_, _%_, _^_, _<_, _≤_}
 use native.Mathlib.Omega.{arith}
 use native.Mathlib.Numerals.{add-one}
 use lib.Bits.{bitXor, xor-lt}
+use lib.ListN.{getD}
+use Rattle.std.proofs.shelf.Tests.{eq-eqb, ne-eqb}
 use Rattle.seal.specs.declared.words.Words.{Words}
 use Rattle.seal.specs.Code.{Lawful}
-use Rattle.seal.specs.Xtea.{plus, minus, wordsOf, blockOf, stirred, roundKey, mixed, unmixed, mixedBy, unmixedBy, xtea}
+use Rattle.seal.specs.Xtea.{plus, minus, wordsOf, blockOf, stirred, sumAfter, cycled, runningSum, roundKey, mixed, unmixed, mixedBy, unmixedBy, xtea}
 
 -- both words have 32 bits
 abbrev Fit : Words → Type 0
@@ -79,6 +81,49 @@ module _ (key : List ℕ) where
   unmixed-none zero words h = refl
   unmixed-none (suc n) words h = absurd (omega arith)
 
+-- two half rounds are a cycle
+module _ (key : List ℕ) where
+  sum-is : (n : ℕ) → sumAfter n ≡ n * 0x9E3779B9 % 2 ^ 32
+  unfolding sumAfter
+  sum-is zero = refl
+  sum-is (suc n) = let before = sum-is n in omega arith
+
+  first-key : (n : ℕ) → roundKey key (n + n) ≡ plus (sumAfter n) (getD key (sumAfter n % 4) 0)
+  first-key n =
+      let even : (n + n) % 2 ≡ 0 = omega arith in
+      let half : (n + n + 1) / 2 ≡ n = omega arith in
+      let sum : runningSum (n + n) ≡ sumAfter n = ap (λ m. m * 0x9E3779B9 % 2 ^ 32) half ∙ sym (sum-is n) in
+      rw (eq-eqb ((n + n) % 2) 0 even) (ap (λ s. plus s (getD key (s % 4) 0)) sum)
+
+  second-key : (n : ℕ) → roundKey key (suc (n + n)) ≡ plus (sumAfter (suc n)) (getD key (sumAfter (suc n) / 2 ^ 11 % 4) 0)
+  second-key n =
+      let odd : suc (n + n) % 2 ≡ 0 → ⊥ = λ e. omega arith in
+      let half : (suc (n + n) + 1) / 2 ≡ suc n = omega arith in
+      let sum : runningSum (suc (n + n)) ≡ sumAfter (suc n) = ap (λ m. m * 0x9E3779B9 % 2 ^ 32) half ∙ sym (sum-is (suc n)) in
+      rw (ne-eqb (suc (n + n) % 2) 0 odd) (ap (λ s. plus s (getD key (s / 2 ^ 11 % 4) 0)) sum)
+
+  pub mixed-cycles : (n : ℕ) (words : Words) → mixedBy key (n + n) words ≡ cycled key n words
+  unfolding mixedBy cycled
+  mixed-cycles zero words = refl
+  mixed-cycles (suc n) words =
+      let more : suc n + suc n ≡ suc (suc (n + n)) = omega arith in
+      ap (λ m. mixedBy key m words) more
+      ∙ ap (λ w. mixed (roundKey key (suc (n + n))) (mixed (roundKey key (n + n)) w)) (mixed-cycles n words)
+      ∙ ap (λ k. mixed (roundKey key (suc (n + n))) (mixed k (cycled key n words))) (first-key n)
+      ∙ ap (λ k. mixed k (mixed (plus (sumAfter n) (getD key (sumAfter n % 4) 0)) (cycled key n words))) (second-key n)
+
+  closing-back : TakenBack (cycled key 32) (unmixedBy key 64)
+  closing-back = record {
+    fits = λ words fit. subst (λ (w : Words). Fit w) (mixed-cycles 32 words) (all-mixed-back key 64 .fits words fit);
+    back = λ words fit. ap (unmixedBy key 64) (sym (mixed-cycles 32 words)) ∙ all-mixed-back key 64 .back words fit;
+  }
+
+  opening-back : TakenBack (unmixedBy key 64) (cycled key 32)
+  opening-back = record {
+    fits = all-unmixed-back key 64 .fits;
+    back = λ words fit. sym (mixed-cycles 32 (unmixedBy key 64 words)) ∙ all-unmixed-back key 64 .back words fit;
+  }
+
 words-again : (words : Words) → Fit words → wordsOf (blockOf words) ≡ words
 words-again words fit =
     let block = words .high * 2 ^ 32 + words .low in
@@ -102,9 +147,9 @@ module _ {f g : Words → Words} (taken : TakenBack f g) (block : ℕ) (small : 
 
 pub xtea-lawful : (key : List ℕ) → Lawful (xtea key)
 xtea-lawful key = record {
-  closedBlock = block-below (all-mixed-back key 64);
-  openedBlock = block-below (all-unmixed-back key 64);
-  opensClosed = block-back (all-mixed-back key 64);
-  closesOpened = block-back (all-unmixed-back key 64);
+  closedBlock = block-below (closing-back key);
+  openedBlock = block-below (opening-back key);
+  opensClosed = block-back (closing-back key);
+  closesOpened = block-back (opening-back key);
   twoBits = omega arith;
 }

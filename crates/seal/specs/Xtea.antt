@@ -1,4 +1,4 @@
--- XTEA with 32 cycles, which are 64 half rounds. Assumes nothing.
+-- XTEA with 32 cycles. Assumes nothing.
 use mathlib.Core.Bool.{cond}
 use mathlib.Core.List.{List, [], _∷_}
 use Prim.Native.Nat.{ℕ, zero, suc, _+_, _-_, _*_, _/_, _%_, _^_}
@@ -35,19 +35,42 @@ blockOf words = words .high * 2 ^ 32 + words .low
 abbrev pub stirred : ℕ → ℕ
 stirred word = plus (bitXor (word * 16 % 2 ^ 32) (word / 32)) word
 
--- The running sum grows once in each cycle, between its two half rounds.
+-- what a word grows by: from the other word, the running sum and the key's word at a place
+abbrev pub added : List ℕ → ℕ → ℕ → ℕ → ℕ
+added key sum place word = bitXor (stirred word) (plus sum (getD key place 0))
+
+-- The sum that runs along: it grows once in each cycle, between the two words.
+unfoldable pub sumAfter : ℕ → ℕ
+sumAfter zero = 0
+sumAfter (suc n) = plus (sumAfter n) 0x9E3779B9
+
+-- A cycle lets the high word grow, then the sum, then the low word. Two bits of the sum tell the key's word: the lowest ones
+-- for the high word, those from bit 11 on for the low word.
+abbrev pub highAfter : List ℕ → ℕ → Words → ℕ
+highAfter key n words = plus (words .high) (added key (sumAfter n) (sumAfter n % 4) (words .low))
+
+abbrev pub cycle : List ℕ → ℕ → Words → Words
+cycle key n words = record {
+  high = highAfter key n words;
+  low = plus (words .low) (added key (sumAfter (suc n)) (sumAfter (suc n) / 2 ^ 11 % 4) (highAfter key n words));
+}
+
+-- the words after the first n cycles
+unfoldable pub cycled : List ℕ → ℕ → Words → Words
+cycled key zero words = words
+cycled key (suc n) words = cycle key n (cycled key n words)
+
+-- A cycle in two like halves. Half round i adds to the high word what the low word and the round's key give, and the two
+-- words change places.
 abbrev pub runningSum : ℕ → ℕ
 runningSum i = (i + 1) / 2 * 0x9E3779B9 % 2 ^ 32
 
--- The key's word that half round i takes: two bits of the running sum tell its place, the lowest ones in the first half of
--- a cycle, those from bit 11 on in the second.
 abbrev pub keyPlace : ℕ → ℕ
 keyPlace i = cond (eqb (i % 2) 0) (runningSum i % 4) (runningSum i / 2 ^ 11 % 4)
 
 abbrev pub roundKey : List ℕ → ℕ → ℕ
 roundKey key i = plus (runningSum i) (getD key (keyPlace i) 0)
 
--- A half round adds to the high word what the low word and the round's key give, and the two words change places.
 abbrev pub mixed : ℕ → Words → Words
 mixed k words = record { high = words .low; low = plus (words .high) (bitXor (stirred (words .low)) k) }
 
@@ -65,9 +88,10 @@ module _ (key : List ℕ) where
   unmixedBy zero words = words
   unmixedBy (suc n) words = unmixedBy n (unmixed (roundKey key n) words)
 
+  -- Closing is 32 cycles. Opening takes their half rounds back; that it is the inverse is what the law of a seal asks.
   abbrev pub xtea : SealCode
   xtea = record {
-    closed = λ block. blockOf (mixedBy 64 (wordsOf block));
+    closed = λ block. blockOf (cycled key 32 (wordsOf block));
     opened = λ block. blockOf (unmixedBy 64 (wordsOf block));
     technique = 1;
   }

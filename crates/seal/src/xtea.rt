@@ -1,7 +1,7 @@
 // XTEA with 32 cycles and a key of 128 bits.
 ghost use mathlib.Core.Path.{_≡_};
 ghost use Prim.Native.Nat.{_<_, _≤_};
-ghost use Rattle.seal.specs.Xtea.{keyWords, wordsOf, blockOf, stirred, runningSum, keyPlace, roundKey, mixed, unmixed, mixedBy, unmixedBy, xtea};
+ghost use Rattle.seal.specs.Xtea.{keyWords, wordsOf, blockOf, stirred, runningSum, keyPlace, roundKey, mixed, unmixed, mixedBy, unmixedBy, cycled, xtea};
 use crate::Seal;
 use crate::words::Words;
 
@@ -114,7 +114,14 @@ impl Xtea {
         words
     }
 
-    // The words before them.
+    // The words after all 32 cycles.
+    fn cycle(&self, words: Words) -> Words
+        ensures { λ r. ⌜ r ≡ cycled (now (self .entry) .key) 32 words ⌝ }
+    {
+        self.mixed_by(HALF_ROUNDS, words)
+    }
+
+    // The words before the first `count` half rounds.
     fn unmixed_by(&self, count: u32, mut words: Words) -> Words
         requires { ⌜ count ≤ 64 ⌝ }
         ensures { λ r. ⌜ r ≡ unmixedBy (now (self .entry) .key) count words ⌝ }
@@ -134,7 +141,7 @@ pub impl Seal for Xtea as XteaSeal {
     }
 
     fn close(&self, block: u64) -> u64 {
-        self.mixed_by(HALF_ROUNDS, Words::of(block)).block()
+        self.cycle(Words::of(block)).block()
     }
 
     fn open(&self, block: u64) -> u64 {

@@ -1,9 +1,10 @@
 -- A header and the values that it stands in. Assumes nothing.
-use mathlib.Core.Path.{_≡_, refl, ap, sym, _∙_}
+use mathlib.Core.Path.{_≡_, refl, ap, sym, _∙_, subst}
 use mathlib.Core.List.{List, [], _∷_, _++_, append-assoc}
 use Prim.Native.Nat.{ℕ, _+_, _-_, _*_, _^_, _<_, _≤_}
 use native.Mathlib.Omega.{arith}
 use lib.ListN.{length, take, drop, set, length-append}
+use Rattle.std.proofs.shelf.Digits.{number-lt}
 use Rattle.std.proofs.shelf.Elements.{all-append, all-take, all-drop}
 use Rattle.std.proofs.shelf.Lists.{length-take-le, length-drop, take-append-drop, drop-drop, set-split}
 use Rattle.std.specs.shelf.Digits.{number, Under}
@@ -18,6 +19,13 @@ field-again place count vs u h =
     let part = take count (drop place vs) in
     let long : length part ≡ count = length-take-le count (drop place vs) (rw length-drop (omega arith)) in
     ap (λ k. digits 64 k (number 64 part)) (sym long) ∙ digits-again 64 (omega arith) part (all-take (λ v. v < 64) count (drop place vs) (all-drop (λ v. v < 64) place vs u))
+
+-- and so it is small
+pub field-below : (place count : ℕ) (vs : List ℕ) → Under 64 vs → place + count ≤ length vs → field place count vs < 64 ^ count
+field-below place count vs u h =
+    let part = take count (drop place vs) in
+    let long : length part ≡ count = length-take-le count (drop place vs) (rw length-drop (omega arith)) in
+    subst (λ (k : ℕ). number 64 part < 64 ^ k) long (number-lt 64 part (all-take (λ v. v < 64) count (drop place vs) (all-drop (λ v. v < 64) place vs u)))
 
 -- a part and what stands behind it
 part-and-rest : (place count : ℕ) (vs : List ℕ) → take count (drop place vs) ++ drop (place + count) vs ≡ drop place vs

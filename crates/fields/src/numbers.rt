@@ -7,6 +7,9 @@ ghost use Rattle.arithmetic.specs.Digits.{digits};
 ghost use Rattle.line.specs.Values.{numbers};
 use line::SixBit;
 
+// The first number that eleven values cannot write.
+pub(crate) const ELEVEN_VALUES: u128 = 0x4_0000_0000_0000_0000;
+
 // The number that values write.
 pub(crate) fn number_of(values: &[SixBit]) -> u128
     requires { ⌜ length (now values) ≤ 11 ⌝ }

@@ -11,6 +11,7 @@ ghost use Rattle.fields.specs.Layout.{field, headerOf, bodyIn, blocksIn};
 ghost use Rattle.fields.specs.Bodies.{closedBlocks, fillingOf, blocksOf};
 use crate::body::Body;
 use crate::header::Header;
+use crate::numbers::ELEVEN_VALUES;
 use crate::numbers::number_of;
 use line::SixBit;
 use wire::FrameValues;
@@ -61,7 +62,7 @@ fn cut_block(rest: u8, spare: u128, values: &[SixBit]) -> Cut
     ensures below { λ r. ⌜ r .rest < spare ⌝ }
     ensures block { λ r. ⌜ r .block < 2 ^ 64 ⌝ }
 {
-    let bits = rest as u128 * 0x4_0000_0000_0000_0000 + number_of(values);
+    let bits = rest as u128 * ELEVEN_VALUES + number_of(values);
     Cut {
         block: (bits / spare) as u64,
         rest: (bits % spare) as u8,
@@ -72,18 +73,18 @@ fn cut_block(rest: u8, spare: u128, values: &[SixBit]) -> Cut
 fn cut_body(size: usize, values: &[SixBit]) -> Body
     requires { ⌜ 1 ≤ size ⌝ ∗ ⌜ size ≤ 3 ⌝ ∗ ⌜ length (now values) ≡ 11 * size ⌝ }
     ensures size { λ r. ⌜ r .size ≡ size ⌝ }
-    ensures blocks { λ r. ⌜ blocksOf r ≡ closedBlocks size (number 64 (numbers (now (values .entry)))) ⌝ }
+    ensures closed { λ r. ⌜ blocksOf r ≡ closedBlocks size (number 64 (numbers (now (values .entry)))) ⌝ }
     ensures filling { λ r. ⌜ r .filling ≡ fillingOf size (number 64 (numbers (now (values .entry)))) ⌝ }
 {
-    let mut blocks = [0u64; 3];
+    let mut closed = [0u64; 3];
     let mut rest = 0u8;
     for k in 0..size {
         let cut = cut_block(rest, 4u128.pow(k as u32 + 1), &values[11 * k..11 * k + 11]);
-        blocks[k] = cut.block;
+        closed[k] = cut.block;
         rest = cut.rest;
     }
     Body {
-        blocks,
+        blocks: closed,
         size,
         filling: rest,
     }
@@ -103,7 +104,7 @@ impl Body {
     // The body of a frame.
     pub fn read(frame: &FrameValues) -> Body
         ensures size { λ r. ⌜ r .size ≡ blocksIn (valuesIn (now (frame .entry))) ⌝ }
-        ensures blocks { λ r. ⌜ blocksOf r ≡ closedBlocks (r .size) (number 64 (bodyIn (valuesIn (now (frame .entry))))) ⌝ }
+        ensures closed { λ r. ⌜ blocksOf r ≡ closedBlocks (r .size) (number 64 (bodyIn (valuesIn (now (frame .entry))))) ⌝ }
         ensures filling { λ r. ⌜ r .filling ≡ fillingOf (r .size) (number 64 (bodyIn (valuesIn (now (frame .entry))))) ⌝ }
     {
         let values = body_values(frame);

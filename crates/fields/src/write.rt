@@ -11,6 +11,7 @@ ghost use Rattle.fields.specs.Layout.{headerValues, frameOf};
 ghost use Rattle.fields.specs.Bodies.{bodyNumber, blocksOf};
 use crate::body::Body;
 use crate::header::Header;
+use crate::numbers::ELEVEN_VALUES;
 use crate::numbers::put_number;
 use line::SixBit;
 use wire::FrameValues;
@@ -44,7 +45,7 @@ fn put_block(block: u64, spare: u128, rest: u8, values: &mut [SixBit]) -> u8
 {
     let bits = block as u128 * spare + rest as u128;
     put_number(values, bits);
-    (bits / 0x4_0000_0000_0000_0000) as u8
+    (bits / ELEVEN_VALUES) as u8
 }
 
 fn put_body(body: &Body, values: &mut [SixBit])

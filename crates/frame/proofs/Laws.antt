@@ -20,7 +20,7 @@ use Rattle.refusal.proofs.Firsts.{neither, unless-none, mapped-none}
 use Rattle.arithmetic.specs.Digits.{digits}
 use Rattle.arithmetic.proofs.Bases.{length-digits, digits-under, number-again, digits-again}
 use Rattle.line.specs.Code.{LineCode, Lawful as LawfulLine}
-use Rattle.wire.specs.Frames.{frameLength, valuesOf, withCheck, checkOver, bytesOf as symbolsOf}
+use Rattle.wire.specs.Frames.{frameLength, valuesOf, withCheck, checkOver, symbolsOf}
 use Rattle.wire.specs.Refusing.{lineRefusal}
 use Rattle.wire.proofs.Carrying.{Sound, sound, accepted, values-under, bytes-again, written-reads, written-sound, check-restored}
 use Rattle.seal.specs.Code.{SealCode, Lawful as LawfulSeal}
@@ -101,7 +101,7 @@ pub record Buildable (fields : Fields) : Type 0 where
   pub bytes : Under 256 (fields .payload)
   pub whole : length (fields .payload) ≡ 8 * fields .header .size
 
-same-fields : {h h′ : Header} {p p′ : List ℕ} → h ≡ h′ → p ≡ p′ → _≡_ {A = Fields} (record { header = h; payload = p }) (record { header = h′; payload = p′ })
+pub same-fields : {h h′ : Header} {p p′ : List ℕ} → h ≡ h′ → p ≡ p′ → _≡_ {A = Fields} (record { header = h; payload = p }) (record { header = h′; payload = p′ })
 same-fields eh ep = cc
 
 module _ (wire : Wire) (line : LawfulLine (wire .line)) (seal : LawfulSeal (wire .seal)) (fields : Fields) (b : Buildable fields) where

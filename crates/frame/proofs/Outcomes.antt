@@ -6,8 +6,8 @@ use Prim.Native.Nat.{ℕ, zero, suc, _+_, _-_, _*_, _^_, _<_, _≤_}
 use native.Mathlib.Omega.{arith}
 use lib.Dec.{leb, ltb, eqb}
 use lib.ListN.{length, take, drop, replicate, length-set}
-use Rattle.std.proofs.shelf.Lists.{length-map, take-at}
-use Rattle.std.proofs.shelf.Tests.{and-parts, eqb-true, leb-true, ltb-true, le-leb, false≢true}
+use Rattle.std.proofs.shelf.Lists.{length-map, length-drop, take-at}
+use Rattle.std.proofs.shelf.Tests.{and-parts, eqb-true, leb-true, ltb-true, le-leb, lt-ltb, eq-eqb, false≢true}
 use Rattle.std.specs.Options.{isSome}
 use Rattle.std.specs.declared.option.Option.{Option}
 use Rattle.std.specs.declared.option.Option.the-variants.{None, Some}
@@ -18,22 +18,24 @@ use Rattle.refusal.specs.Outcomes.{unless, orElse}
 use Rattle.refusal.proofs.Firsts.{neither, unless-none}
 use Rattle.arithmetic.proofs.Bases.{length-digits}
 use Rattle.line.specs.Code.{Lawful as LawfulLine}
-use Rattle.wire.specs.Frames.{frameRoom, frameLength, valuesOf, bytesOf as symbolsOf}
+use Rattle.wire.specs.Frames.{frameRoom, frameLength, valuesOf, symbolsOf}
 use Rattle.wire.specs.Calls.{Written}
+use Rattle.wire.proofs.Carrying.{values-under}
 use Rattle.seal.specs.Code.{Lawful as LawfulSeal}
 use Rattle.fields.specs.declared.body.Body.{Body}
 use Rattle.fields.specs.declared.header.Header.{Header}
 use Rattle.fields.specs.Types.{typeOf}
-use Rattle.fields.specs.Layout.{bodyIn, blocksIn, frameOf}
+use Rattle.fields.specs.Layout.{field, headerOf, bodyIn, blocksIn, frameOf}
 use Rattle.fields.specs.Bodies.{bodyNumber, closedBlocks, blocksOf}
+use Rattle.fields.proofs.Layouts.{field-below}
 use Rattle.fields.proofs.Made.{blocks-counted}
 use Rattle.frame.specs.declared.fault.FrameFault.{FrameFault}
 use Rattle.frame.specs.declared.fault.FrameFault.the-variants.{Buffer, TypeOrSize, OutOfRange}
 use Rattle.frame.specs.Payloads.{withCheckByte, closedFrom, openedFrom, sealFilling}
 use Rattle.frame.specs.Frames.{Wire, Fields, IsClosed, payloadOf, fieldsOf, sealedBody, bytesOf}
 use Rattle.frame.specs.Refusing.{workingRoom, openRefusal, roomRefusal, headerFits, buildable, buildRefusal}
-use Rattle.frame.specs.Calls.{filled, OpenedInto, holding, cleared, Opened, WellFormed, OpensAlone, fieldsWith, Built, OpensAgain, BuiltAlone}
-use Rattle.frame.proofs.Laws.{opens, opened-again, opened-alone, Buildable, frame-long, built-fields, built-opens}
+use Rattle.frame.specs.Calls.{filled, OpenedInto, holding, cleared, Opened, WellFormed, BuildsAgain, OpensAlone, fieldsWith, Built, OpensAgain, BuiltAlone}
+use Rattle.frame.proofs.Laws.{opens, opened-again, opened-alone, same-fields, Buildable, frame-long, built-fields, built-opens}
 
 -- a closed frame whose blocks were opened into the working bytes
 pub opened-into : (wire : Wire) (network destination : ℕ) (bytes : List ℕ) (header : Header) (body : Body) (after : List ℕ) → openRefusal wire network destination bytes ≡ None
@@ -80,6 +82,39 @@ well-formed wire network destination bytes work (Ok header) e =
     let counted = blocks-counted (length vs) (ap frameLength (length-map bytes _) ∙ o .sound .whole) in
     (ap (λ h. isSome (typeOf (h .«frame_type»))) (e .1) ∙ o .known, omega (arith, counted .1), omega (arith, counted .2), length-digits 256 (8 * blocksIn vs) _ ∙ ap (λ n. 8 * n) (sym size))
 well-formed wire network destination bytes work (Err fault) e = tt
+
+-- a header that was read fits
+read-fits : (vs : List ℕ) → Under 64 vs → 15 ≤ length vs → headerFits (headerOf vs) ≡ true
+read-fits vs u h =
+    rw (
+      lt-ltb (field 0 2 vs) 4096 (field-below 0 2 vs u (omega arith)),
+      lt-ltb (field 3 2 vs) 4096 (field-below 3 2 vs u (omega arith)),
+      lt-ltb (field 5 6 vs) (2 ^ 36) (field-below 5 6 vs u (omega arith)),
+      lt-ltb (field 11 2 vs) 4096 (field-below 11 2 vs u (omega arith)),
+    )
+
+-- nothing stands against building it again
+none-against : (room : ℕ) (header : Header) (count : ℕ) → frameRoom ≤ room → isSome (typeOf (header .«frame_type»)) ≡ true → 1 ≤ header .size → header .size ≤ 3 → count + 1 ≡ 8 * header .size → headerFits header ≡ true
+    → buildRefusal room header count ≡ None
+none-against room header count h known some few whole fits =
+    let can : buildable header count ≡ true = rw (known, le-leb 1 (header .size) some, le-leb (header .size) 3 few) (eq-eqb (count + 1) (8 * header .size) whole) in
+    ap (λ t. orElse (unless t (Buffer (record {}))) (orElse (unless (buildable header count) TypeOrSize) (unless (headerFits header) OutOfRange))) (le-leb frameRoom room h)
+    ∙ ap (λ t. orElse (unless t TypeOrSize) (unless (headerFits header) OutOfRange)) can
+    ∙ ap (λ t. unless t OutOfRange) fits
+
+pub builds-again : (wire : Wire) → LawfulSeal (wire .seal) → (network destination : ℕ) (bytes work : List ℕ) (r : Result Header FrameFault) → OpenedInto wire network destination bytes work r → BuildsAgain wire bytes r
+builds-again wire lawful network destination bytes work (Ok header) e =
+    let o = opens wire network destination bytes (e .0) in
+    let vs = valuesOf (wire .line) bytes in
+    let payload = payloadOf (wire .seal) vs in
+    let formed = well-formed wire network destination bytes work (Ok header) e in
+    let counted = blocks-counted (length vs) (ap frameLength (length-map bytes _) ∙ o .sound .whole) in
+    let fits : headerFits header ≡ true = ap headerFits (e .1) ∙ read-fits vs (values-under (wire .line) bytes) (omega (arith, counted .0)) in
+    let count : length (drop 1 payload) + 1 ≡ 8 * header .size = omega (arith, length-drop 1 payload, formed .3, formed .1) in (
+      λ room h. none-against room header (length (drop 1 payload)) h (formed .0) (formed .1) (formed .2) count fits,
+      λ right. ap (bytesOf wire) (same-fields (e .1) right) ∙ opened-again wire lawful network destination bytes (e .0),
+    )
+builds-again wire lawful network destination bytes work (Err fault) e = tt
 
 pub opens-alone : (wire : Wire) → LawfulSeal (wire .seal) → (network destination : ℕ) (bytes work : List ℕ) (r : Result Header FrameFault) → OpenedInto wire network destination bytes work r → OpensAlone wire network destination bytes r
 opens-alone wire lawful network destination bytes work (Ok header) o =

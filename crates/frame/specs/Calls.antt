@@ -9,6 +9,7 @@ use Rattle.std.specs.Options.{isSome}
 use Rattle.std.specs.declared.option.Option.the-variants.{None, Some}
 use Rattle.std.specs.declared.result.Result.{Result}
 use Rattle.std.specs.declared.result.Result.the-variants.{Ok, Err}
+use Rattle.wire.specs.Frames.{frameRoom}
 use Rattle.fields.specs.declared.header.Header.{Header}
 use Rattle.fields.specs.Types.{typeOf}
 use Rattle.frame.specs.declared.fault.FrameFault.{FrameFault}
@@ -41,6 +42,10 @@ Opened wire network destination bytes before after (Ok header) =
 Opened wire network destination bytes before after (Err fault) =
     (roomRefusal workingRoom (length before) (openRefusal wire network destination bytes) ≡ Some fault) × (after ≡ cleared before)
 
+-- the fields of a frame with this header and, behind its byte 0, this payload
+abbrev pub fieldsWith : Header → List ℕ → Fields
+fieldsWith header behind = record { header = header; payload = withCheckByte behind }
+
 -- What opens has a known type and one to three blocks, and its payload eight bytes for each of them.
 abbrev pub WellFormed : Wire → List ℕ → Result Header FrameFault → Type 0
 WellFormed wire bytes (Ok header) =
@@ -53,9 +58,13 @@ OpensAlone wire network destination bytes (Ok header) =
     (bytesOf wire (fieldsOf wire bytes) ≡ bytes) × ((other : List ℕ) → openRefusal wire network destination other ≡ None → fieldsOf wire other ≡ fieldsOf wire bytes → other ≡ bytes)
 OpensAlone wire network destination bytes (Err fault) = Unit {0}
 
--- the fields of a frame with this header and, behind its byte 0, this payload
-abbrev pub fieldsWith : Header → List ℕ → Fields
-fieldsWith header behind = record { header = header; payload = withCheckByte behind }
+-- From what opened, its payload handed in without byte 0, building is not refused where there is room; and where byte 0 is
+-- right, it gives the very bytes.
+abbrev pub BuildsAgain : Wire → List ℕ → Result Header FrameFault → Type 0
+BuildsAgain wire bytes (Ok header) =
+    let behind = drop 1 (fieldsOf wire bytes .payload) in
+    ((room : ℕ) → frameRoom ≤ room → buildRefusal room header (length behind) ≡ None) × (withCheckByte behind ≡ fieldsOf wire bytes .payload → bytesOf wire (fieldsWith header behind) ≡ bytes)
+BuildsAgain wire bytes (Err fault) = Unit {0}
 
 -- Building puts the run of bytes of these fields at the front of a buffer, or tells the first fault that applies.
 abbrev pub Built : Wire → Header → List ℕ → List ℕ → List ℕ → Result ℕ FrameFault → Type 0

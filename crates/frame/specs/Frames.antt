@@ -4,7 +4,7 @@ use mathlib.Core.List.{List}
 use Prim.Native.Nat.{ℕ}
 use Rattle.std.specs.shelf.Digits.{number}
 use Rattle.line.specs.Code.{LineCode}
-use Rattle.wire.specs.Frames.{valuesOf, bytesOf as symbolsOf}
+use Rattle.wire.specs.Frames.{valuesOf, symbolsOf}
 use Rattle.seal.specs.Code.{SealCode}
 use Rattle.fields.specs.declared.header.Header.{Header}
 use Rattle.fields.specs.declared.body.Body.{Body}

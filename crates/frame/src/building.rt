@@ -13,9 +13,7 @@ use fields::frame_values;
 use line::Line;
 use refusal::ShortBuffer;
 use seal::Seal;
-
-// The bytes that a buffer for a frame has at the least.
-const FRAME_ROOM: usize = 48;
+use wire::FRAME_ROOM;
 
 // The most that a device ID and a network ID can be.
 const MOST_DID: u16 = 0xFFF;

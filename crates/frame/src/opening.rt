@@ -5,7 +5,7 @@ ghost use Rattle.refusal.specs.Outcomes.{Outcome};
 ghost use Rattle.wire.specs.Frames.{valuesOf};
 ghost use Rattle.frame.specs.Frames.{wireOf, IsClosed};
 ghost use Rattle.frame.specs.Refusing.{typeAndSize, headerRefusal, openRefusal};
-ghost use Rattle.frame.specs.Calls.{OpenedInto, Opened, WellFormed, OpensAlone};
+ghost use Rattle.frame.specs.Calls.{OpenedInto, Opened, WellFormed, BuildsAgain, OpensAlone};
 use crate::fault::FrameFault;
 use crate::payload::filling_for;
 use crate::payload::open_body;
@@ -114,6 +114,7 @@ pub fn open<L: Line, S: Seal>(
 ) -> Result<Header, FrameFault>
     ensures opened { λ r. ⌜ Opened (wireOf (L·Line .code (now (line .entry))) (S·Seal .code (now (seal .entry)))) network destination (now (frame .entry)) (now (work .entry)) (now (work .exit)) r ⌝ }
     ensures formed { λ r. ⌜ WellFormed (wireOf (L·Line .code (now (line .entry))) (S·Seal .code (now (seal .entry)))) (now (frame .entry)) r ⌝ }
+    ensures again { λ r. ⌜ BuildsAgain (wireOf (L·Line .code (now (line .entry))) (S·Seal .code (now (seal .entry)))) (now (frame .entry)) r ⌝ }
     ensures alone { λ r. ⌜ OpensAlone (wireOf (L·Line .code (now (line .entry))) (S·Seal .code (now (seal .entry)))) network destination (now (frame .entry)) r ⌝ }
 {
     if work.len() < WORKING_ROOM {

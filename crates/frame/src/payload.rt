@@ -60,14 +60,14 @@ fn block_at(bytes: &[u8], i: usize) -> u64
 // The closed blocks of a payload, at the front of room for the most.
 fn close_blocks<S: Seal>(seal: &S, size: usize, payload: &[u8]) -> [u64; 3]
     requires { ⌜ 1 ≤ size ⌝ ∗ ⌜ size ≤ 3 ⌝ ∗ ⌜ length (now payload) ≡ 8 * size ⌝ }
-    ensures blocks { λ r. ⌜ take size r ≡ closedFrom (S·Seal .code (now (seal .entry))) size (now (payload .entry)) ⌝ }
+    ensures closed { λ r. ⌜ take size r ≡ closedFrom (S·Seal .code (now (seal .entry))) size (now (payload .entry)) ⌝ }
     ensures bytes { λ r. ⌜ Under 256 (now (payload .entry)) ⌝ }
 {
-    let mut blocks = [0u64; 3];
+    let mut closed = [0u64; 3];
     for k in 0..size {
-        blocks[k] = seal.close(block_at(payload, 8 * k));
+        closed[k] = seal.close(block_at(payload, 8 * k));
     }
-    blocks
+    closed
 }
 
 // The bits that a seal puts behind so many blocks.
@@ -83,7 +83,7 @@ pub(crate) fn filling_for<S: Seal>(seal: &S, size: usize) -> u8
 pub(crate) fn sealed_body<S: Seal>(seal: &S, size: usize, behind: &[u8]) -> Body
     requires { ⌜ 1 ≤ size ⌝ ∗ ⌜ size ≤ 3 ⌝ ∗ ⌜ length (now behind) + 1 ≡ 8 * size ⌝ }
     ensures size { λ r. ⌜ r .size ≡ size ⌝ }
-    ensures blocks { λ r. ⌜ blocksOf r ≡ closedFrom (S·Seal .code (now (seal .entry))) size (withCheckByte (now (behind .entry))) ⌝ }
+    ensures closed { λ r. ⌜ blocksOf r ≡ closedFrom (S·Seal .code (now (seal .entry))) size (withCheckByte (now (behind .entry))) ⌝ }
     ensures filling { λ r. ⌜ r .filling ≡ sealFilling (S·Seal .code (now (seal .entry))) size ⌝ }
     ensures bytes { λ r. ⌜ Under 256 (withCheckByte (now (behind .entry))) ⌝ }
 {

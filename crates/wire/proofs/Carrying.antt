@@ -20,7 +20,7 @@ use Rattle.line.specs.Values.{numbers}
 use Rattle.line.specs.Code.{LineCode, Lawful, valueOf}
 use Rattle.line.proofs.Codes.{symbol-value, value-small, value-symbol}
 use Rattle.wire.specs.declared.fault.LineFault.the-variants.{Length, NoSymbol, Check}
-use Rattle.wire.specs.Frames.{frameLength, firstNoSymbol, orLater, valuesOf, checkOver, checkHolds, withCheck, bytesOf}
+use Rattle.wire.specs.Frames.{frameLength, firstNoSymbol, orLater, valuesOf, checkOver, checkHolds, withCheck, symbolsOf}
 use Rattle.wire.specs.declared.fault.CarryFault.the-variants.{Buffer, Line}
 use Rattle.wire.specs.declared.frame_values.FrameValues.{FrameValues}
 use Rattle.wire.specs.Values.{valuesIn}
@@ -39,7 +39,7 @@ pub values-long : (vs : List SixBit) (n : ℕ) → length vs ≡ 48 → frameLen
 values-long vs n long e = let h = frame-most n e in rw (length-map, length-take-le n vs (omega arith))
 
 -- a frame's bytes written over the front of a buffer
-pub front-written : (code : LineCode) (vs : List SixBit) (n : ℕ) (was out : List ℕ) → length vs ≡ 48 → frameLength n ≡ true → 48 ≤ length was → out ≡ bytesOf code (numbers (take (n - 0) vs)) → Written code (numbers (take n vs)) was (out ++ postOf 0 (n - 0) was) (Ok n)
+pub front-written : (code : LineCode) (vs : List SixBit) (n : ℕ) (was out : List ℕ) → length vs ≡ 48 → frameLength n ≡ true → 48 ≤ length was → out ≡ symbolsOf code (numbers (take (n - 0) vs)) → Written code (numbers (take n vs)) was (out ++ postOf 0 (n - 0) was) (Ok n)
 front-written code vs n was out long e h eo = let z : n - 0 ≡ n = omega arith in (h, sym (values-long vs n long e), rw (eo, z))
 
 -- what a frame that is not refused has
@@ -99,10 +99,10 @@ module _ (code : LineCode) (lawful : Lawful code) where
       (getD-set-same vs 2 (checkOver code vs) 0 (omega arith) ∙ sym (ap (code .check) (drop-set-lt 3 vs 2 (checkOver code vs) (omega arith))))
 
   -- a frame that was written reads as its values, with the line's own check
-  pub written-reads : (vs : List ℕ) → Under 64 vs → valuesOf code (bytesOf code vs) ≡ withCheck code vs
+  pub written-reads : (vs : List ℕ) → Under 64 vs → valuesOf code (symbolsOf code vs) ≡ withCheck code vs
   written-reads vs u = values-again (withCheck code vs) (check-under vs u)
 
-  pub written-sound : (vs : List ℕ) → Under 64 vs → frameLength (length vs) ≡ true → Sound code (bytesOf code vs)
+  pub written-sound : (vs : List ℕ) → Under 64 vs → frameLength (length vs) ≡ true → Sound code (symbolsOf code vs)
   written-sound vs u e = record {
     whole = rw (length-map, length-set) e;
     symbols = all-symbols 0 (withCheck code vs) (check-under vs u);
@@ -128,7 +128,7 @@ module _ (a b : LineCode) (lawful : Lawful b) (bytes : List ℕ) (s : Sound a by
   carried-back : carried b a (carried a b bytes) ≡ bytes
   carried-back =
       let vs = valuesOf a bytes in
-      ap (bytesOf a) (written-reads b lawful vs (values-under a bytes)) ∙ ap (map (a .symbol)) (check-restored a bytes s (checkOver b vs)) ∙ bytes-again a 0 bytes (s .symbols)
+      ap (symbolsOf a) (written-reads b lawful vs (values-under a bytes)) ∙ ap (map (a .symbol)) (check-restored a bytes s (checkOver b vs)) ∙ bytes-again a 0 bytes (s .symbols)
 
   -- the same of the front of a buffer that they were written to
   front-back : (n : ℕ) (out tail : List ℕ) → n ≡ length bytes → out ≡ carried a b bytes ++ tail → CarriesBack a b bytes out (Ok n)
@@ -143,7 +143,7 @@ carry-accepted code room bytes h e = ap (λ t. orElse (unless t (Buffer (record 
 pub read-written : (a b : LineCode) (frame was out : List ℕ) (f : FrameValues) (n : ℕ) → Read a frame (Ok f) → Written b (valuesIn f) was out (Ok n) → Carried a b frame was out (Ok n)
 read-written a b frame was out f n r w =
     let count : n ≡ length frame = w .1 ∙ ap length (r .1) ∙ length-map frame _ in
-    (carry-accepted a (length was) frame (w .0) (r .0), count, w .2 ∙ ap (λ vs. bytesOf b vs ++ drop n was) (r .1))
+    (carry-accepted a (length was) frame (w .0) (r .0), count, w .2 ∙ ap (λ vs. symbolsOf b vs ++ drop n was) (r .1))
 
 pub carries-back : (a b : LineCode) → Lawful b → (frame was out : List ℕ) (f : FrameValues) (n : ℕ) → Read a frame (Ok f) → Carried a b frame was out (Ok n) → CarriesBack a b frame out (Ok n)
 carries-back a b lawful frame was out f n r c = front-back a b lawful frame (sound a frame (r .0)) n out (drop n was) (c .1) (c .2)

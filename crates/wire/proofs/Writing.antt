@@ -8,7 +8,7 @@ use Rattle.line.specs.declared.six_bit.SixBit.{SixBit}
 use Rattle.line.specs.Values.{numberOf, numbers}
 use Rattle.line.specs.Code.{LineCode}
 use Rattle.line.proofs.Numbers.{number-at}
-use Rattle.wire.specs.Frames.{bytesOf}
+use Rattle.wire.specs.Frames.{symbolsOf}
 use Rattle.wire.proofs.Reading.{behind-check}
 
 module _ (f : ℕ → ℕ) (vs : List SixBit) (out : List ℕ) (i : ℕ) where
@@ -30,7 +30,7 @@ module _ (f : ℕ → ℕ) (vs : List SixBit) (out : List ℕ) (i : ℕ) where
       sym (take-all i out ho) ∙ inv ∙ take-all i (map f (numbers vs)) (rw length-map n)
 
 -- the check's symbol written over what stood at its place
-pub check-written : (code : LineCode) (vs : List SixBit) (out : List ℕ) (s c : ℕ) → out ≡ map (code .symbol) (numbers vs) → s ≡ code .symbol c → c ≡ code .check (numbers (take (length vs - 3) (drop 3 vs))) → set out 2 s ≡ bytesOf code (numbers vs)
+pub check-written : (code : LineCode) (vs : List SixBit) (out : List ℕ) (s c : ℕ) → out ≡ map (code .symbol) (numbers vs) → s ≡ code .symbol c → c ≡ code .check (numbers (take (length vs - 3) (drop 3 vs))) → set out 2 s ≡ symbolsOf code (numbers vs)
 check-written code vs out s c eo es ec =
     let e : s ≡ code .symbol (code .check (drop 3 (numbers vs))) = es ∙ ap (code .symbol) (ec ∙ ap (code .check) (behind-check vs)) in
     ap (λ xs. set xs 2 s) eo ∙ ap (set (map (code .symbol) (numbers vs)) 2) e ∙ sym (map-set (code .symbol) (numbers vs) 2 (code .check (drop 3 (numbers vs))))

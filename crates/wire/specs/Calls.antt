@@ -12,7 +12,7 @@ use Rattle.line.specs.Code.{LineCode}
 use Rattle.wire.specs.declared.fault.LineFault.{LineFault}
 use Rattle.wire.specs.declared.fault.CarryFault.{CarryFault}
 use Rattle.wire.specs.declared.frame_values.FrameValues.{FrameValues}
-use Rattle.wire.specs.Frames.{frameRoom, valuesOf, bytesOf}
+use Rattle.wire.specs.Frames.{frameRoom, valuesOf, symbolsOf}
 use Rattle.wire.specs.Values.{valuesIn}
 use Rattle.wire.specs.Refusing.{lineRefusal, carryRefusal, carried}
 
@@ -22,7 +22,7 @@ Read code bytes = Outcome (lineRefusal code bytes) (λ frame. valuesIn frame ≡
 
 -- Writing puts a frame's bytes at the front of a buffer and leaves what is behind them; one without room stays as it was.
 abbrev pub Written : LineCode → List ℕ → List ℕ → List ℕ → Result ℕ ShortBuffer → Type 0
-Written code values before after (Ok count) = (frameRoom ≤ length before) × (count ≡ length values) × (after ≡ bytesOf code values ++ drop count before)
+Written code values before after (Ok count) = (frameRoom ≤ length before) × (count ≡ length values) × (after ≡ symbolsOf code values ++ drop count before)
 Written code values before after (Err fault) = (length before < frameRoom) × (after ≡ before)
 
 -- Carrying does the same with the bytes of a frame on another line, or tells the first fault that applies.

@@ -43,5 +43,5 @@ abbrev pub withCheck : LineCode → List ℕ → List ℕ
 withCheck code values = set values 2 (checkOver code values)
 
 -- the bytes that carry a frame's values on a line
-abbrev pub bytesOf : LineCode → List ℕ → List ℕ
-bytesOf code values = map (code .symbol) (withCheck code values)
+abbrev pub symbolsOf : LineCode → List ℕ → List ℕ
+symbolsOf code values = map (code .symbol) (withCheck code values)

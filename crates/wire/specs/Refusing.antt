@@ -14,7 +14,7 @@ use Rattle.wire.specs.declared.fault.LineFault.{LineFault}
 use Rattle.wire.specs.declared.fault.LineFault.the-variants.{Length, NoSymbol, Check}
 use Rattle.wire.specs.declared.fault.CarryFault.{CarryFault}
 use Rattle.wire.specs.declared.fault.CarryFault.the-variants.{Buffer, Line}
-use Rattle.wire.specs.Frames.{frameRoom, frameLength, firstNoSymbol, valuesOf, checkHolds, bytesOf}
+use Rattle.wire.specs.Frames.{frameRoom, frameLength, firstNoSymbol, valuesOf, checkHolds, symbolsOf}
 
 -- The length, a byte that is no symbol, the check: the first that applies.
 abbrev pub lineRefusal : LineCode → List ℕ → Option LineFault
@@ -28,7 +28,7 @@ carryRefusal code room bytes = orElse (unless (leb frameRoom room) (Buffer (reco
 
 -- the bytes of the same frame on another line
 abbrev pub carried : LineCode → LineCode → List ℕ → List ℕ
-carried from to bytes = bytesOf to (valuesOf from bytes)
+carried from to bytes = symbolsOf to (valuesOf from bytes)
 
 -- 2, 3 and 4, Line; the place is the index of the first byte that is no symbol, and otherwise 0
 abbrev pub lineRefused : LineFault → Refusal

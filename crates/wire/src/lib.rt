@@ -2,7 +2,6 @@
 ghost use Rattle.wire.specs.Calls.{Carried, CarriesBack};
 use line::Line;
 use refusal::ShortBuffer;
-use write::FRAME_ROOM;
 
 mod fault;
 mod frame_values;
@@ -19,6 +18,7 @@ pub use fault::LineFaultPartialEq;
 pub use frame_values::FrameValues;
 pub use refuse::CarryFaultFromBuffer;
 pub use refuse::CarryFaultFromLine;
+pub use write::FRAME_ROOM;
 
 // Writes the bytes that carry a frame of one line on another at the front of `out`, and tells how many they are.
 // Carried back they are the frame's own bytes again.

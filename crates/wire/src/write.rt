@@ -4,7 +4,7 @@ ghost use mathlib.Core.List.{map};
 ghost use Prim.Native.Nat.{_≤_};
 ghost use lib.ListN.{length};
 ghost use Rattle.line.specs.Values.{numbers};
-ghost use Rattle.wire.specs.Frames.{bytesOf};
+ghost use Rattle.wire.specs.Frames.{symbolsOf};
 ghost use Rattle.wire.specs.Values.{valuesIn};
 ghost use Rattle.wire.specs.Calls.{Written};
 use crate::frame_values::FrameValues;
@@ -13,7 +13,7 @@ use line::SixBit;
 use refusal::ShortBuffer;
 
 // The bytes that a buffer for a frame has at the least: those of the longest.
-pub(crate) const FRAME_ROOM: usize = 48;
+pub const FRAME_ROOM: usize = 48;
 
 fn write_symbols<L: Line>(line: &L, values: &[SixBit], out: &mut [u8])
     requires { ⌜ length (now out) ≡ length (now values) ⌝ }
@@ -27,7 +27,7 @@ fn write_symbols<L: Line>(line: &L, values: &[SixBit], out: &mut [u8])
 // Writes each value's symbol, and the line's own check at its place.
 fn encode<L: Line>(line: &L, values: &[SixBit], out: &mut [u8])
     requires { ⌜ length (now out) ≡ length (now values) ⌝ ∗ ⌜ 3 ≤ length (now values) ⌝ }
-    ensures { λ _. ⌜ now (out .exit) ≡ bytesOf (L·Line .code (now (line .entry))) (numbers (now (values .entry))) ⌝ }
+    ensures { λ _. ⌜ now (out .exit) ≡ symbolsOf (L·Line .code (now (line .entry))) (numbers (now (values .entry))) ⌝ }
 {
     write_symbols(line, values, out);
     out[2] = line.symbol(line.check(&values[3..]));

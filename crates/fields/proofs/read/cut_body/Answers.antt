@@ -28,16 +28,16 @@ loop-k-again c =
     let cut = c .cut-block-cut .ensures in
     let block = c .cut-block-cut .result .block in
     let rest = c .cut-block-cut .result .rest in
-    cut-more (numbers (c .args .values .now)) (c .loop-k .blocks) _ k (c .loop-k .rest) block rest (omega arith) (rw length-map (omega arith)) (cut .block)
+    cut-more (numbers (c .args .values .now)) (c .loop-k .closed) _ k (c .loop-k .rest) block rest (omega arith) (rw length-map (omega arith)) (cut .block)
     (subst (λ (n : ℕ). rest < n) (c .pow .ensures) (cut .below)) (part-numbers (c .args .values .now) (11 * k) 11)
     (ap (λ n. block * n + rest) (sym (c .pow .ensures)) ∙ cut .whole) (c .loop-k .inv)
 
 pub ghost-result : need.ghost-result
 ghost-result c =
-    let all = cut-all (numbers (c .args .values .now)) (c .loop-k .blocks) (c .args .size) (c .loop-k .k) (c .loop-k .rest) (omega arith) (omega arith) (rw length-map (omega arith)) (c .loop-k .inv) in
+    let all = cut-all (numbers (c .args .values .now)) (c .loop-k .closed) (c .args .size) (c .loop-k .k) (c .loop-k .rest) (omega arith) (omega arith) (rw length-map (omega arith)) (c .loop-k .inv) in
     (omega arith, (omega arith, (all .2, tt)))
 
 pub returns : need.returns
 returns c =
-    let all = cut-all (numbers (c .args .values .now)) (c .loop-k .blocks) (c .args .size) (c .loop-k .k) (c .loop-k .rest) (omega arith) (omega arith) (rw length-map (omega arith)) (c .loop-k .inv) in
-    record { size = search needs; blocks = all .0; filling = all .1 }
+    let all = cut-all (numbers (c .args .values .now)) (c .loop-k .closed) (c .args .size) (c .loop-k .k) (c .loop-k .rest) (omega arith) (omega arith) (rw length-map (omega arith)) (c .loop-k .inv) in
+    record { size = search needs; closed = all .0; filling = all .1 }

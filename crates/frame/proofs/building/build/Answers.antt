@@ -16,7 +16,7 @@ returns g c =
     let none = sym (c .build-refusal .ensures) ∙ c .in-rest .is in
     let written = c .in-Continue-write .ensures tt in
     record {
-      built = built-frame wire line seal header (c .args .behind .now) (c .args .out .now) (c .write .last .out) body values (c .in-Continue-write .field-0) none (sealed .size) (sealed .blocks) (sealed .filling) (sealed .bytes) (c .frame-values .ensures) written;
-      opens = opens-again wire line seal header (c .args .behind .now) (c .args .out .now) (c .write .last .out) body values (c .in-Continue-write .field-0) none (sealed .size) (sealed .blocks) (sealed .filling) (sealed .bytes) (c .frame-values .ensures) written;
-      alone = built-alone wire line seal header (c .args .behind .now) (c .args .out .now) (c .write .last .out) body values (c .in-Continue-write .field-0) none (sealed .size) (sealed .blocks) (sealed .filling) (sealed .bytes) (c .frame-values .ensures) written;
+      built = built-frame wire line seal header (c .args .behind .now) (c .args .out .now) (c .write .last .out) body values (c .in-Continue-write .field-0) none (sealed .size) (sealed .closed) (sealed .filling) (sealed .bytes) (c .frame-values .ensures) written;
+      opens = opens-again wire line seal header (c .args .behind .now) (c .args .out .now) (c .write .last .out) body values (c .in-Continue-write .field-0) none (sealed .size) (sealed .closed) (sealed .filling) (sealed .bytes) (c .frame-values .ensures) written;
+      alone = built-alone wire line seal header (c .args .behind .now) (c .args .out .now) (c .write .last .out) body values (c .in-Continue-write .field-0) none (sealed .size) (sealed .closed) (sealed .filling) (sealed .bytes) (c .frame-values .ensures) written;
     }

@@ -18,8 +18,8 @@ loop-k-again g c =
     let f = g .S·Seal .code (c .args .seal .now) .closed in
     let i = c .loop-k .inv in
     let under = c .block-at .ensures .bytes in (
-      length-set (c .loop-k .blocks) (c .loop-k .k) (c .close .result) ∙ i .0,
-      block-closed f (c .args .payload .now) (c .loop-k .blocks) (c .loop-k .k) (c .close .result) (omega (arith, i .0)) (omega arith) under (c .close .ensures ∙ ap f (c .block-at .ensures .value)) (i .1),
+      length-set (c .loop-k .closed) (c .loop-k .k) (c .close .result) ∙ i .0,
+      block-closed f (c .args .payload .now) (c .loop-k .closed) (c .loop-k .k) (c .close .result) (omega (arith, i .0)) (omega arith) under (c .close .ensures ∙ ap f (c .block-at .ensures .value)) (i .1),
       λ h. under,
     )
 
@@ -29,8 +29,8 @@ returns g c =
     let i = c .loop-k .inv in
     let e : c .loop-k .k ≡ c .args .size = omega arith in
     record {
-      blocks =
-          subst (λ (n : ℕ). take n (c .loop-k .blocks) ≡ map f (digits (2 ^ 64) n (number 256 (take (8 * n) (c .args .payload .now))))) e (i .1)
+      closed =
+          subst (λ (n : ℕ). take n (c .loop-k .closed) ≡ map f (digits (2 ^ 64) n (number 256 (take (8 * n) (c .args .payload .now))))) e (i .1)
           ∙ ap (λ bs. map f (digits (2 ^ 64) (c .args .size) (number 256 bs))) (take-all (8 * c .args .size) (c .args .payload .now) (omega arith));
       bytes = i .2 (omega arith);
     }

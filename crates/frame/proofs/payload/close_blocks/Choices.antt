@@ -8,4 +8,4 @@ use Rattle.frame.proofs.payload.close_blocks.Given as given
 
 abbrev pub Inv-loop-k : given.InvT-loop-k
 Inv-loop-k g l =
-    (length (l .blocks) ≡ 3) × (take (l .k) (l .blocks) ≡ map (g .S·Seal .code (l .seal) .closed) (digits (2 ^ 64) (l .k) (number 256 (take (8 * l .k) (l .payload))))) × (0 < l .k → Under 256 (l .payload))
+    (length (l .closed) ≡ 3) × (take (l .k) (l .closed) ≡ map (g .S·Seal .code (l .seal) .closed) (digits (2 ^ 64) (l .k) (number 256 (take (8 * l .k) (l .payload))))) × (0 < l .k → Under 256 (l .payload))

@@ -17,7 +17,7 @@ returns g c =
     ap (take (8 * size - 0)) (c .clear-payload-payload .ensures) ∙ take-at (withCheckByte behind) (replicate (23 - length behind) 0) (8 * size - 0) (omega arith) in
     record {
       size = refl;
-      blocks = c .close-blocks .ensures .blocks ∙ ap (closedFrom (g .S·Seal .code (c .args .seal .now)) size) front;
+      closed = c .close-blocks .ensures .closed ∙ ap (closedFrom (g .S·Seal .code (c .args .seal .now)) size) front;
       filling = c .filling-for .ensures .value;
       bytes = subst (λ (bs : List ℕ). Under 256 bs) front (c .close-blocks .ensures .bytes);
     }

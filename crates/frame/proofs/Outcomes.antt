@@ -116,10 +116,10 @@ builds-again wire lawful network destination bytes work (Ok header) e =
     )
 builds-again wire lawful network destination bytes work (Err fault) e = tt
 
-pub opens-alone : (wire : Wire) → LawfulSeal (wire .seal) → (network destination : ℕ) (bytes work : List ℕ) (r : Result Header FrameFault) → OpenedInto wire network destination bytes work r → OpensAlone wire network destination bytes r
+pub opens-alone : (wire : Wire) → LawfulSeal (wire .seal) → (network destination : ℕ) (bytes work : List ℕ) (r : Result Header FrameFault) → OpenedInto wire network destination bytes work r → OpensAlone wire bytes r
 opens-alone wire lawful network destination bytes work (Ok header) o =
     let again = opened-again wire lawful network destination bytes (o .0) in
-    (again, λ other e same. opened-alone wire lawful network destination other (fieldsOf wire bytes) e same ∙ again)
+    (again, λ network′ destination′ other e same. opened-alone wire lawful network′ destination′ other (fieldsOf wire bytes) e same ∙ again)
 opens-alone wire lawful network destination bytes work (Err fault) o = tt
 
 known-small : (t : ℕ) → isSome (typeOf t) ≡ true → t < 64

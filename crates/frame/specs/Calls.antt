@@ -52,11 +52,11 @@ WellFormed wire bytes (Ok header) =
     (isSome (typeOf (header .«frame_type»)) ≡ true) × (1 ≤ header .size) × (header .size ≤ 3) × (length (fieldsOf wire bytes .payload) ≡ 8 * header .size)
 WellFormed wire bytes (Err fault) = Unit {0}
 
--- What opens is the run of bytes of its fields, and so no other run opens to them.
-abbrev pub OpensAlone : Wire → ℕ → ℕ → List ℕ → Result Header FrameFault → Type 0
-OpensAlone wire network destination bytes (Ok header) =
-    (bytesOf wire (fieldsOf wire bytes) ≡ bytes) × ((other : List ℕ) → openRefusal wire network destination other ≡ None → fieldsOf wire other ≡ fieldsOf wire bytes → other ≡ bytes)
-OpensAlone wire network destination bytes (Err fault) = Unit {0}
+-- What opens is the run of bytes of its fields, and so no other run opens to them, for whatever network and destination.
+abbrev pub OpensAlone : Wire → List ℕ → Result Header FrameFault → Type 0
+OpensAlone wire bytes (Ok header) =
+    (bytesOf wire (fieldsOf wire bytes) ≡ bytes) × ((network destination : ℕ) (other : List ℕ) → openRefusal wire network destination other ≡ None → fieldsOf wire other ≡ fieldsOf wire bytes → other ≡ bytes)
+OpensAlone wire bytes (Err fault) = Unit {0}
 
 -- From what opened, its payload handed in without byte 0, building is not refused where there is room; and where byte 0 is
 -- right, it gives the very bytes.

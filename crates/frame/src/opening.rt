@@ -115,7 +115,7 @@ pub fn open<L: Line, S: Seal>(
     ensures opened { λ r. ⌜ Opened (wireOf (L·Line .code (now (line .entry))) (S·Seal .code (now (seal .entry)))) network destination (now (frame .entry)) (now (work .entry)) (now (work .exit)) r ⌝ }
     ensures formed { λ r. ⌜ WellFormed (wireOf (L·Line .code (now (line .entry))) (S·Seal .code (now (seal .entry)))) (now (frame .entry)) r ⌝ }
     ensures again { λ r. ⌜ BuildsAgain (wireOf (L·Line .code (now (line .entry))) (S·Seal .code (now (seal .entry)))) (now (frame .entry)) r ⌝ }
-    ensures alone { λ r. ⌜ OpensAlone (wireOf (L·Line .code (now (line .entry))) (S·Seal .code (now (seal .entry)))) network destination (now (frame .entry)) r ⌝ }
+    ensures alone { λ r. ⌜ OpensAlone (wireOf (L·Line .code (now (line .entry))) (S·Seal .code (now (seal .entry)))) (now (frame .entry)) r ⌝ }
 {
     if work.len() < WORKING_ROOM {
         return Err(FrameFault::Buffer(ShortBuffer));

@@ -1,7 +1,7 @@
 -- Digits in a base: either way between a number and its digits leads back. Assumes nothing.
-use mathlib.Core.Path.{_≡_, refl, ap, sym, _∙_, subst}
+use mathlib.Core.Path.{_≡_, refl, ap, sym, _∙_}
 use mathlib.Core.List.{List, [], _∷_, _++_}
-use Prim.Native.Nat.{ℕ, zero, suc, _+_, _*_, _/_, _%_, _^_, _<_, _≤_}
+use Prim.Native.Nat.{ℕ, zero, suc, _+_, _*_, _/_, _%_, _^_, _<_}
 use native.Mathlib.Omega.{arith}
 use native.Mathlib.Nat.{pow-suc, pow-zero, mul-assoc, mul-comm, mul-one, add-mul, add-assoc, zero-add, zero-mul, suc-add, mul-pos, mod-lt, mod-eq-of-lt, add-mul-div-right, mul-add-mod-self-right, div-div-eq-div-mul}
 use native.Mathlib.Numerals.{add-one}

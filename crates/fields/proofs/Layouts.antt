@@ -1,17 +1,17 @@
 -- A header and the values that it stands in. Assumes nothing.
 use mathlib.Core.Path.{_≡_, refl, ap, sym, _∙_, subst}
-use mathlib.Core.List.{List, [], _∷_, _++_, append-assoc}
-use Prim.Native.Nat.{ℕ, _+_, _-_, _*_, _^_, _<_, _≤_}
+use mathlib.Core.List.{List, _∷_, _++_}
+use Prim.Native.Nat.{ℕ, _+_, _-_, _^_, _<_, _≤_}
 use native.Mathlib.Omega.{arith}
-use lib.ListN.{length, take, drop, set, length-append}
+use lib.ListN.{length, take, drop, set}
 use Rattle.std.proofs.shelf.Digits.{number-lt}
 use Rattle.std.proofs.shelf.Elements.{all-append, all-take, all-drop}
 use Rattle.std.proofs.shelf.Lists.{length-take-le, length-drop, take-append-drop, drop-drop, set-split}
 use Rattle.std.specs.shelf.Digits.{number, Under}
 use Rattle.arithmetic.specs.Digits.{digits}
-use Rattle.arithmetic.proofs.Bases.{length-digits, digits-under, number-again, digits-again}
+use Rattle.arithmetic.proofs.Bases.{digits-under, number-again, digits-again}
 use Rattle.fields.specs.declared.header.Header.{Header}
-use Rattle.fields.specs.Layout.{field, headerOf, headerValues, frameOf}
+use Rattle.fields.specs.Layout.{field, headerOf, headerValues}
 
 -- the values of a field are the digits of its number
 pub field-again : (place count : ℕ) (vs : List ℕ) → Under 64 vs → place + count ≤ length vs → digits 64 count (field place count vs) ≡ take count (drop place vs)

@@ -1,5 +1,5 @@
 -- Where the fields of a frame stand among its values. Assumes nothing.
-use mathlib.Core.List.{List, [], _∷_, _++_}
+use mathlib.Core.List.{List, _∷_, _++_}
 use Prim.Native.Nat.{ℕ, _-_, _*_, _/_}
 use lib.ListN.{length, take, drop}
 use Rattle.std.specs.shelf.Digits.{number}

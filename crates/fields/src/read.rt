@@ -1,11 +1,9 @@
 // A frame's fields read from its values.
 ghost use mathlib.Core.Path.{_≡_};
-ghost use mathlib.Core.Bool.{true};
 ghost use Prim.Native.Nat.{_+_, _*_, _^_, _<_, _≤_};
 ghost use lib.ListN.{length};
 ghost use Rattle.std.specs.shelf.Digits.{number};
 ghost use Rattle.line.specs.Values.{numbers};
-ghost use Rattle.wire.specs.Frames.{frameLength};
 ghost use Rattle.wire.specs.Values.{valuesIn};
 ghost use Rattle.fields.specs.Layout.{field, headerOf, bodyIn, blocksIn};
 ghost use Rattle.fields.specs.Bodies.{closedBlocks, fillingOf, blocksOf};

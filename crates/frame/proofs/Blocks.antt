@@ -1,21 +1,20 @@
 -- Bytes as blocks and blocks as bytes, one block after the other. Assumes nothing.
-use mathlib.Core.Path.{_≡_, refl, ap, sym, _∙_, subst}
-use mathlib.Core.List.{List, [], _∷_, _++_, map, append-assoc, map-append}
-use Prim.Native.Nat.{ℕ, zero, suc, _+_, _-_, _*_, _/_, _%_, _^_, _<_, _≤_}
+use mathlib.Core.Path.{_≡_, ap, sym, _∙_, subst}
+use mathlib.Core.List.{List, [], _∷_, _++_, map}
+use Prim.Native.Nat.{ℕ, _+_, _-_, _*_, _/_, _%_, _^_, _<_, _≤_}
 use native.Mathlib.Omega.{arith}
 use native.Mathlib.Nat.{pow-suc, mul-comm, mul-lt-mul-of-pos-right}
 use native.Mathlib.Numerals.{add-one}
-use lib.ListN.{length, getD, take, drop, set, replicate, length-set}
-use lib.Pow.{pow-add}
+use lib.ListN.{length, getD, take, drop, set}
 use lib.Seq.{take-add}
 use borrow.Rule.Slice.PartMut.{putMid}
 use Rattle.std.proofs.shelf.Digits.{number-push, number-lt}
-use Rattle.std.proofs.shelf.Elements.{all-append, all-push, all-take, all-drop}
-use Rattle.std.proofs.shelf.Lists.{length-map, length-take-le, length-drop, take-all, take-at, take-more, take-more-set, drop-more, drop-all, map-push, map-more, drop-drop}
+use Rattle.std.proofs.shelf.Elements.{all-take, all-drop}
+use Rattle.std.proofs.shelf.Lists.{length-take-le, length-drop, take-more-set, drop-more, map-push, map-more, drop-drop}
 use Rattle.std.proofs.shelf.Parts.{take-putMid, drop-putMid}
 use Rattle.std.specs.shelf.Digits.{number, Under}
 use Rattle.arithmetic.specs.Digits.{digits}
-use Rattle.arithmetic.proofs.Bases.{power-pos, number-append, digits-more, length-digits, digits-under, digits-again, number-again, number-digits}
+use Rattle.arithmetic.proofs.Bases.{power-pos, number-append, digits-more}
 
 -- the eight bytes from a place on
 pub eight : (bs : List ℕ) (i : ℕ) → i + 8 ≤ length bs

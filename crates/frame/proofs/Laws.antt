@@ -1,30 +1,27 @@
 -- What opens is the run of bytes of its fields, and what is built opens to its fields. Assumes nothing.
 use mathlib.Core.Path.{_≡_, refl, ap, sym, _∙_, subst}
-use mathlib.Core.Bool.{Bool, true, _&&_}
+use mathlib.Core.Bool.{true}
 use mathlib.Core.List.{List, _++_, map}
 use Prim.Native.Nat.{ℕ, _+_, _-_, _*_, _/_, _^_, _<_, _≤_}
 use native.Mathlib.Omega.{arith}
-use lib.Dec.{eqb, leb, ltb}
-use lib.ListN.{length, take, drop, set, length-set, length-append}
+use lib.Dec.{eqb}
+use lib.ListN.{length, set, length-set, length-append}
 use Rattle.std.proofs.shelf.Digits.{number-lt}
 use Rattle.std.proofs.shelf.Elements.{all-append, all-drop}
-use Rattle.std.proofs.shelf.Lists.{length-drop, length-map, drop-set-lt, drop-at, take-at}
-use Rattle.std.proofs.shelf.Tests.{and-parts, eqb-true, eq-eqb, leb-true, ltb-true}
-use Rattle.std.proofs.shelf.Ways.{tells}
+use Rattle.std.proofs.shelf.Lists.{length-drop, length-map, drop-set-lt, drop-at}
+use Rattle.std.proofs.shelf.Tests.{and-parts, eqb-true, eq-eqb}
 use Rattle.std.specs.Options.{isSome, mapped}
-use Rattle.std.specs.declared.option.Option.{Option}
-use Rattle.std.specs.declared.option.Option.the-variants.{None, Some}
+use Rattle.std.specs.declared.option.Option.the-variants.{None}
 use Rattle.std.specs.shelf.Digits.{number, Under}
 use Rattle.refusal.specs.Outcomes.{unless, orElse}
 use Rattle.refusal.proofs.Firsts.{neither, unless-none, mapped-none}
 use Rattle.arithmetic.specs.Digits.{digits}
 use Rattle.arithmetic.proofs.Bases.{length-digits, digits-under, number-again, digits-again}
-use Rattle.line.specs.Code.{LineCode, Lawful as LawfulLine}
+use Rattle.line.specs.Code.{Lawful as LawfulLine}
 use Rattle.wire.specs.Frames.{frameLength, valuesOf, withCheck, checkOver, symbolsOf}
 use Rattle.wire.specs.Refusing.{lineRefusal}
 use Rattle.wire.proofs.Carrying.{Sound, sound, accepted, values-under, bytes-again, written-reads, written-sound, check-restored}
-use Rattle.seal.specs.Code.{SealCode, Lawful as LawfulSeal}
-use Rattle.fields.specs.declared.frame_type.FrameType.{FrameType}
+use Rattle.seal.specs.Code.{Lawful as LawfulSeal}
 use Rattle.fields.specs.declared.header.Header.{Header}
 use Rattle.fields.specs.Types.{typeOf}
 use Rattle.fields.specs.Layout.{headerOf, headerValues, bodyIn, blocksIn, frameOf}
@@ -32,11 +29,10 @@ use Rattle.fields.specs.Bodies.{bodyNumber, closedBlocks, fillingOf}
 use Rattle.fields.proofs.Made.{blocks-length, blocks-counted}
 use Rattle.fields.proofs.Cuts.{body-parts, body-below, body-again}
 use Rattle.fields.proofs.Layouts.{Fits, header-again, header-read, header-long, header-under}
-use Rattle.frame.specs.declared.fault.FrameFault.{FrameFault}
-use Rattle.frame.specs.declared.fault.FrameFault.the-variants.{Line, Network, Destination, TypeOrSize, Technique, OutOfRange}
+use Rattle.frame.specs.declared.fault.FrameFault.the-variants.{Line, Network, Destination, TypeOrSize, Technique}
 use Rattle.frame.specs.Payloads.{closedFrom, openedFrom, sealFilling}
 use Rattle.frame.specs.Frames.{Wire, Fields, payloadOf, fieldsOf, sealedBody, bytesOf}
-use Rattle.frame.specs.Refusing.{typeAndSize, headerRefusal, frameRefusal, openRefusal, headerFits, buildable}
+use Rattle.frame.specs.Refusing.{typeAndSize, headerRefusal, frameRefusal, openRefusal}
 use Rattle.frame.proofs.Blocks.{technique-fits}
 use Rattle.frame.proofs.Sealing.{closed-under, closed-long, opened-closed, closed-opened}
 
@@ -151,9 +147,6 @@ module _ (wire : Wire) (line : LawfulLine (wire .line)) (seal : LawfulSeal (wire
   read : valuesOf (wire .line) (bytesOf wire fields) ≡ withCheck (wire .line) vs
   unfolding vs body n h
   read = written-reads (wire .line) line vs under
-
-  check : ℕ
-  check = checkOver (wire .line) vs
 
   header-back : headerOf (withCheck (wire .line) vs) ≡ h
   unfolding vs h

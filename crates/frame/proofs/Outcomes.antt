@@ -1,7 +1,7 @@
 -- What the calls answer, from what their parts answer. Assumes nothing.
-use mathlib.Core.Path.{_≡_, refl, ap, sym, _∙_, subst}
-use mathlib.Core.Bool.{true, cond, _&&_}
-use mathlib.Core.List.{List, _∷_, _++_, append-assoc}
+use mathlib.Core.Path.{_≡_, ap, sym, _∙_}
+use mathlib.Core.Bool.{true, cond}
+use mathlib.Core.List.{List, _++_, append-assoc}
 use Prim.Native.Nat.{ℕ, zero, suc, _+_, _-_, _*_, _^_, _<_, _≤_}
 use native.Mathlib.Omega.{arith}
 use lib.Dec.{leb, ltb, eqb}
@@ -9,11 +9,10 @@ use lib.ListN.{length, take, drop, replicate, length-set}
 use Rattle.std.proofs.shelf.Lists.{length-map, length-drop, take-at}
 use Rattle.std.proofs.shelf.Tests.{and-parts, eqb-true, leb-true, ltb-true, le-leb, lt-ltb, eq-eqb, false≢true}
 use Rattle.std.specs.Options.{isSome}
-use Rattle.std.specs.declared.option.Option.{Option}
-use Rattle.std.specs.declared.option.Option.the-variants.{None, Some}
+use Rattle.std.specs.declared.option.Option.the-variants.{None}
 use Rattle.std.specs.declared.result.Result.{Result}
 use Rattle.std.specs.declared.result.Result.the-variants.{Ok, Err}
-use Rattle.std.specs.shelf.Digits.{number, Under}
+use Rattle.std.specs.shelf.Digits.{Under}
 use Rattle.refusal.specs.Outcomes.{unless, orElse}
 use Rattle.refusal.proofs.Firsts.{neither, unless-none}
 use Rattle.arithmetic.proofs.Bases.{length-digits}
@@ -25,16 +24,16 @@ use Rattle.seal.specs.Code.{Lawful as LawfulSeal}
 use Rattle.fields.specs.declared.body.Body.{Body}
 use Rattle.fields.specs.declared.header.Header.{Header}
 use Rattle.fields.specs.Types.{typeOf}
-use Rattle.fields.specs.Layout.{field, headerOf, bodyIn, blocksIn, frameOf}
-use Rattle.fields.specs.Bodies.{bodyNumber, closedBlocks, blocksOf}
+use Rattle.fields.specs.Layout.{field, headerOf, blocksIn, frameOf}
+use Rattle.fields.specs.Bodies.{bodyNumber, blocksOf}
 use Rattle.fields.proofs.Layouts.{field-below}
 use Rattle.fields.proofs.Made.{blocks-counted}
 use Rattle.frame.specs.declared.fault.FrameFault.{FrameFault}
 use Rattle.frame.specs.declared.fault.FrameFault.the-variants.{Buffer, TypeOrSize, OutOfRange}
 use Rattle.frame.specs.Payloads.{withCheckByte, closedFrom, openedFrom, sealFilling}
-use Rattle.frame.specs.Frames.{Wire, Fields, IsClosed, payloadOf, fieldsOf, sealedBody, bytesOf}
-use Rattle.frame.specs.Refusing.{workingRoom, openRefusal, roomRefusal, headerFits, buildable, buildRefusal}
-use Rattle.frame.specs.Calls.{filled, OpenedInto, holding, cleared, Opened, WellFormed, BuildsAgain, OpensAlone, fieldsWith, Built, OpensAgain, BuiltAlone}
+use Rattle.frame.specs.Frames.{Wire, IsClosed, payloadOf, fieldsOf, sealedBody, bytesOf}
+use Rattle.frame.specs.Refusing.{workingRoom, openRefusal, headerFits, buildable, buildRefusal}
+use Rattle.frame.specs.Calls.{OpenedInto, holding, Opened, WellFormed, BuildsAgain, OpensAlone, fieldsWith, Built, OpensAgain, BuiltAlone}
 use Rattle.frame.proofs.Laws.{opens, opened-again, opened-alone, same-fields, Buildable, frame-long, built-fields, built-opens}
 
 -- a closed frame whose blocks were opened into the working bytes
@@ -165,9 +164,6 @@ module _ (wire : Wire) (line : LawfulLine (wire .line)) (seal : LawfulSeal (wire
     (under : Under 256 (withCheckByte behind))
     (frame : values ≡ frameOf header (body .size) (bodyNumber (body .size) (blocksOf body) (body .filling)))
     (written : Written (wire .line) values before after (Ok count)) where
-  fields : Fields
-  fields = fieldsWith header behind
-
   can : Buildable (fieldsWith header behind)
   can = buildable-fields (length before) header behind none under
 

@@ -1,6 +1,5 @@
 // Building a frame.
 ghost use mathlib.Core.Path.{_≡_};
-ghost use lib.ListN.{length};
 ghost use Rattle.frame.specs.Frames.{wireOf};
 ghost use Rattle.frame.specs.Refusing.{buildable, headerFits, buildRefusal};
 ghost use Rattle.frame.specs.Calls.{Built, OpensAgain, BuiltAlone};

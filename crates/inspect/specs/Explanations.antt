@@ -11,7 +11,6 @@ use Rattle.std.specs.declared.option.Option.the-variants.{None, Some}
 use Rattle.text.specs.Hexadecimal.{hex}
 use Rattle.refusal.specs.declared.Layer.{Layer}
 use Rattle.refusal.specs.declared.Layer.the-variants.{Call, Line as line-layer, Frame as frame-layer, Body as body-layer}
-use Rattle.refusal.specs.declared.Refusal.{Refusal}
 use Rattle.refusal.specs.Refusals.{textOf}
 use Rattle.line.specs.Cable.{cable}
 use Rattle.wire.specs.declared.fault.LineFault.{LineFault}

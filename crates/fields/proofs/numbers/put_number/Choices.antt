@@ -1,5 +1,3 @@
-use mathlib.Core.Path.{_≡_}
-use lib.ListN.{length}
 use Rattle.fields.proofs.Places.{Written}
 use Rattle.fields.proofs.numbers.put_number.Given as given
 

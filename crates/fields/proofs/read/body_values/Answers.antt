@@ -1,7 +1,5 @@
 use native.Mathlib.Omega.{arith}
-use mathlib.Core.Path.{_≡_, _∙_, ap, sym, subst}
-use mathlib.Core.Bool.{true}
-use Prim.Native.Nat.{ℕ}
+use mathlib.Core.Path.{_≡_, _∙_, ap, sym}
 use lib.ListN.{length, drop}
 use Rattle.std.proofs.shelf.Lists.{length-map, length-drop, take-rest, drop-map}
 use Rattle.line.specs.Values.{numberOf, numbers}

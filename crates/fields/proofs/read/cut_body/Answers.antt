@@ -2,7 +2,6 @@ use borrow.Author.Needs.{needs}
 use native.Mathlib.Omega.{arith}
 use mathlib.Core.Path.{_∙_, ap, sym, subst}
 use Prim.Native.Nat.{ℕ, _+_, _*_, _<_}
-use lib.ListN.{length}
 use Rattle.std.proofs.shelf.Lists.{length-map}
 use Rattle.line.specs.Values.{numbers}
 use Rattle.fields.proofs.Places.{part-numbers, part-long}

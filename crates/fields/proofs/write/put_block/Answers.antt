@@ -1,8 +1,6 @@
-use borrow.Author.Needs.{needs}
 use native.Mathlib.Omega.{arith}
-use mathlib.Core.Path.{_≡_, _∙_, ap, sym}
-use Prim.Native.Nat.{ℕ, _+_, _*_, _/_, _^_, _<_}
-use lib.ListN.{length}
+use mathlib.Core.Path.{_∙_, ap}
+use Prim.Native.Nat.{_+_, _*_, _/_, _^_}
 use Rattle.std.specs.shelf.Digits.{number}
 use Rattle.std.proofs.shelf.Bits.{div-add-mod'}
 use Rattle.arithmetic.specs.Digits.{digits}

@@ -2,7 +2,7 @@ use borrow.Author.Needs.{needs}
 use native.Mathlib.Omega.{arith}
 use mathlib.Core.Path.{_≡_, _∙_, ap, sym}
 use mathlib.Core.List.{map, _++_}
-use Prim.Native.Nat.{ℕ, _+_, _-_, _*_, _^_}
+use Prim.Native.Nat.{_+_, _-_, _*_, _^_}
 use lib.ListN.{take, drop}
 use Rattle.std.proofs.shelf.Lists.{take-append-drop}
 use Rattle.std.specs.shelf.Digits.{number}

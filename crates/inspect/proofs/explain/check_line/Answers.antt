@@ -1,5 +1,4 @@
 use mathlib.Core.Path.{_≡_, _∙_, ap}
-use mathlib.Core.List.{_++_}
 use lib.Chars.{codes}
 use lib.Dec.{eqb}
 use lib.ListN.{getD, drop}

@@ -12,7 +12,7 @@ use lib.Seq.{take-add}
 use Rattle.std.proofs.shelf.Bits.{div-below, mod-below, div-add-mod'}
 use Rattle.std.proofs.shelf.Digits.{number-push, number-lt}
 use Rattle.std.proofs.shelf.Elements.{all-push}
-use Rattle.std.proofs.shelf.Lists.{length-take-le, length-drop, take-all, drop-all, drop-more, take-more-set}
+use Rattle.std.proofs.shelf.Lists.{drop-set-lt, drop-drop, drop-replicate, length-take-le, length-drop, take-all, drop-all, drop-more, take-more-set}
 use Rattle.std.specs.shelf.Digits.{number, Under}
 use Rattle.arithmetic.specs.Digits.{digits}
 use Rattle.arithmetic.proofs.Bases.{power-pos, number-append, number-cons, number-again, digits-again}
@@ -44,6 +44,7 @@ pub record CutSoFar (vs : List ℕ) (blocks : List ℕ) (k rest : ℕ) : Type 0 
   pub long : length blocks ≡ 3
   pub below : rest < 4 ^ k
   pub words : Under (2 ^ 64) (take k blocks)
+  pub blank : drop k blocks ≡ replicate (3 - k) 0
   pub whole : number 64 (take (11 * k) vs) ≡ bodyNumber k (take k blocks) rest
 
 cut-sum : (front block rest rest′ n q p : ℕ) → p ≡ q * 4 → block * p + rest′ ≡ rest * 64 ^ 11 + n → (front * q + rest) * 64 ^ 11 + n ≡ (front * 2 ^ 64 + block) * p + rest′
@@ -53,6 +54,12 @@ cut-sum front block rest rest′ n q p ep e =
     ap (λ x. front * 2 ^ 64 * x) ep ∙ mul-assoc front (2 ^ 64) (q * 4) ∙ ap (λ x. front * x) (sym (mul-assoc (2 ^ 64) q 4) ∙ ap (λ x. x * 4) (mul-comm (2 ^ 64) q) ∙ mul-assoc q (2 ^ 64) 4) ∙ sym (mul-assoc front q (2 ^ 64 * 4)) in
     let apart = add-mul (front * 2 ^ 64) block p in
     omega arith
+
+-- one place fewer is blank
+pub blank-fewer : (blocks : List ℕ) (k block : ℕ) → drop k blocks ≡ replicate (3 - k) 0 → drop (k + 1) (set blocks k block) ≡ replicate (3 - (k + 1)) 0
+blank-fewer blocks k block e =
+    let fewer : 3 - k - 1 ≡ 3 - (k + 1) = omega arith in
+    drop-set-lt (k + 1) blocks k block (omega arith) ∙ sym (drop-drop 1 k blocks) ∙ ap (drop 1) e ∙ drop-replicate 1 (3 - k) 0 ∙ ap (λ n. replicate n 0) fewer
 
 -- one more block is cut off
 pub cut-more : (vs blocks : List ℕ) (seen k rest block rest′ : ℕ) → k < 3 → 11 * k + 11 ≤ length vs → block < 2 ^ 64 → rest′ < 4 ^ (k + 1)
@@ -69,6 +76,7 @@ cut-more vs blocks seen k rest block rest′ hk hv hb hr ew e c =
       long = length-set blocks k block ∙ c .long;
       below = hr;
       words = subst (λ (bs : List ℕ). Under (2 ^ 64) bs) (sym (take-more-set blocks k block at)) (all-push (λ b. b < 2 ^ 64) front block (c .words) hb);
+      blank = blank-fewer blocks k block (c .blank);
       whole =
           ap (λ m. number 64 (take m vs)) next
           ∙ ap (number 64) (take-add (11 * k) 11 vs)
@@ -81,7 +89,7 @@ cut-more vs blocks seen k rest block rest′ hk hv hb hr ew e c =
     }
 
 pub cut-none : (vs : List ℕ) → CutSoFar vs (replicate 3 0) 0 0
-cut-none vs = record { long = refl; below = omega arith; words = tt; whole = refl }
+cut-none vs = record { long = refl; below = omega arith; words = tt; blank = refl; whole = refl }
 
 -- the parts of a body's number
 pub body-parts : (n : ℕ) (blocks : List ℕ) (filling : ℕ) → Under (2 ^ 64) blocks → length blocks ≡ n → filling < 4 ^ n
@@ -93,14 +101,14 @@ body-parts n blocks filling words long below = (
 
 -- all are
 pub cut-all : (vs blocks : List ℕ) (n k rest : ℕ) → n ≤ 3 → k ≡ n → length vs ≡ 11 * n → CutSoFar vs blocks k rest
-    → (take n blocks ≡ closedBlocks n (number 64 vs)) × (rest ≡ fillingOf n (number 64 vs)) × (rest < 4 ^ n)
+    → (take n blocks ≡ closedBlocks n (number 64 vs)) × (rest ≡ fillingOf n (number 64 vs)) × (rest < 4 ^ n) × (drop n blocks ≡ replicate (3 - n) 0)
 cut-all vs blocks n k rest few ek ev c =
     let below : rest < 4 ^ n = subst (λ (j : ℕ). rest < 4 ^ j) ek (c .below) in
     let words : Under (2 ^ 64) (take n blocks) = subst (λ (j : ℕ). Under (2 ^ 64) (take j blocks)) ek (c .words) in
     let whole : number 64 vs ≡ bodyNumber n (take n blocks) rest =
     ap (number 64) (sym (take-all (11 * n) vs (omega arith))) ∙ subst (λ (j : ℕ). number 64 (take (11 * j) vs) ≡ bodyNumber j (take j blocks) rest) ek (c .whole) in
     let parts = body-parts n (take n blocks) rest words (length-take-le n blocks (omega (arith, c .long))) below in
-    (sym (ap (closedBlocks n) whole ∙ parts .0), sym (ap (fillingOf n) whole ∙ parts .1), below)
+    (sym (ap (closedBlocks n) whole ∙ parts .0), sym (ap (fillingOf n) whole ∙ parts .1), below, subst (λ (j : ℕ). drop j blocks ≡ replicate (3 - j) 0) ek (c .blank))
 
 -- so many values hold as many blocks and two bits more for each
 pub room-of-blocks : (m : ℕ) → 64 ^ (11 * m) ≡ (2 ^ 64) ^ m * 4 ^ m

@@ -57,10 +57,11 @@ fn block_at(bytes: &[u8], i: usize) -> u64
     ])
 }
 
-// The closed blocks of a payload, at the front of room for the most.
+// The closed blocks of a payload, at the front of room for the most, zeros behind them.
 fn close_blocks<S: Seal>(seal: &S, size: usize, payload: &[u8]) -> [u64; 3]
     requires { ⌜ 1 ≤ size ⌝ ∗ ⌜ size ≤ 3 ⌝ ∗ ⌜ length (now payload) ≡ 8 * size ⌝ }
     ensures closed { λ r. ⌜ take size r ≡ closedFrom (S·Seal .code (now (seal .entry))) size (now (payload .entry)) ⌝ }
+    ensures blank { λ r. ⌜ drop size r ≡ replicate (3 - size) 0 ⌝ }
     ensures bytes { λ r. ⌜ Under 256 (now (payload .entry)) ⌝ }
 {
     let mut closed = [0u64; 3];

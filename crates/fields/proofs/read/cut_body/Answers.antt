@@ -34,7 +34,7 @@ loop-k-again c =
 pub ghost-result : need.ghost-result
 ghost-result c =
     let all = cut-all (numbers (c .args .values .now)) (c .loop-k .closed) (c .args .size) (c .loop-k .k) (c .loop-k .rest) (omega arith) (omega arith) (rw length-map (omega arith)) (c .loop-k .inv) in
-    (omega arith, (omega arith, (all .2, tt)))
+    (omega arith, (omega arith, (all .2, (all .3, tt))))
 
 pub returns : need.returns
 returns c =

@@ -3,7 +3,7 @@ use mathlib.Core.Path.{_≡_, refl, ap, sym, _∙_, subst}
 use mathlib.Core.List.{List, _∷_, _++_}
 use Prim.Native.Nat.{ℕ, zero, suc, _+_, _-_, _*_, _/_, _%_, _^_, _<_, _≤_}
 use native.Mathlib.Omega.{arith}
-use native.Mathlib.Nat.{pow-suc, pow-le-pow-right, mul-assoc, mul-comm, add-mul, add-assoc, zero-mul, zero-add}
+use native.Mathlib.Nat.{pow-suc, pow-le-pow-right, mul-assoc, mul-comm, mul-mul-mul-comm, add-mul, add-assoc, zero-mul, zero-add}
 use native.Mathlib.Numerals.{add-one}
 use lib.Arith.{digits-lt, digits-div, digits-mod}
 use lib.ListN.{length, getD, take, drop, set, replicate, length-set}
@@ -51,7 +51,7 @@ cut-sum : (front block rest rest′ n q p : ℕ) → p ≡ q * 4 → block * p +
 cut-sum front block rest rest′ n q p ep e =
     let m = front * q in
     let whole : front * 2 ^ 64 * p ≡ m * 64 ^ 11 =
-    ap (λ x. front * 2 ^ 64 * x) ep ∙ mul-assoc front (2 ^ 64) (q * 4) ∙ ap (λ x. front * x) (sym (mul-assoc (2 ^ 64) q 4) ∙ ap (λ x. x * 4) (mul-comm (2 ^ 64) q) ∙ mul-assoc q (2 ^ 64) 4) ∙ sym (mul-assoc front q (2 ^ 64 * 4)) in
+    ap (λ x. front * 2 ^ 64 * x) ep ∙ mul-mul-mul-comm front (2 ^ 64) q 4 in
     let apart = add-mul (front * 2 ^ 64) block p in
     omega arith
 
@@ -120,7 +120,7 @@ room-of-blocks (suc m) =
     ap (λ k. 64 ^ k) more
     ∙ pow-add 64 (11 * m) 11
     ∙ ap (λ x. x * 64 ^ 11) (room-of-blocks m)
-    ∙ (mul-assoc a b (2 ^ 64 * 4) ∙ ap (λ x. a * x) (sym (mul-assoc b (2 ^ 64) 4) ∙ ap (λ x. x * 4) (mul-comm b (2 ^ 64)) ∙ mul-assoc (2 ^ 64) b 4) ∙ sym (mul-assoc a (2 ^ 64) (b * 4)))
+    ∙ mul-mul-mul-comm a b (2 ^ 64) 4
     ∙ ap (λ x. x * (b * 4)) (sym (pow-suc (2 ^ 64) m))
     ∙ ap (λ x. (2 ^ 64) ^ suc m * x) (sym (pow-suc 4 m))
 

@@ -1,4 +1,6 @@
 // Numbers as digits in a base, and division of polynomials over two elements.
+#![tactic(auto)]
+
 mod divide;
 mod division;
 

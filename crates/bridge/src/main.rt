@@ -1,4 +1,6 @@
 // Reads lines of cable frames and prints the radio frame of each, or why it is refused.
+#![tactic(auto)]
+
 use answer::answer_to;
 use line::Radio;
 use std::io;

@@ -1,4 +1,6 @@
 // The fields of a frame: its header and its body as numbers, read from the frame's values and written as values.
+#![tactic(auto)]
+
 mod body;
 mod frame_type;
 mod header;

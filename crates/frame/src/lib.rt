@@ -1,4 +1,6 @@
 // Frames opened and built: a header and a clear payload on any line, with any seal.
+#![tactic(auto)]
+
 mod building;
 mod fault;
 mod opening;

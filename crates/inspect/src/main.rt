@@ -1,4 +1,6 @@
 // Reads lines of cable frames for a network and a device, and explains each.
+#![tactic(auto)]
+
 use expect::{Expected, expected_from};
 use explain::explain;
 use std::env;

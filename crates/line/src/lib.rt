@@ -1,4 +1,6 @@
 // Lines: the byte that stands for each six-bit value, and the check over a list of values.
+#![tactic(auto)]
+
 ghost use Rattle.std.specs.Prelude.{◌≡◌};
 ghost use Rattle.std.specs.Option.{option_map};
 ghost use Rattle.line.specs.Values.{number_of, numbers};

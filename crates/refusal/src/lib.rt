@@ -1,4 +1,6 @@
 // What a host sees of a refused call: a number, the layer that refused, and a place.
+#![tactic(auto)]
+
 ghost use Rattle.std.specs.Prelude.{◌≡◌};
 ghost use Rattle.refusal.specs.Refusals.{text_of, short_buffer};
 

@@ -1,4 +1,6 @@
 // Seals: what closes a block of 64 bits, and opens it again.
+#![tactic(auto)]
+
 ghost use Rattle.std.specs.Prelude.{◌≡◌};
 ghost use Rattle.seal.specs.Code.{SealCode, Lawful};
 

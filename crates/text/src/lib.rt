@@ -1,4 +1,6 @@
 // Text as the programs read and write it: lines, and numbers in hexadecimal.
+#![tactic(auto)]
+
 mod grow;
 mod line;
 mod read_hex;

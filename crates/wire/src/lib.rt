@@ -1,4 +1,6 @@
 // A frame on a line: its bytes read as values, its values written as bytes, and a frame carried from one line to another.
+#![tactic(auto)]
+
 ghost use Rattle.wire.specs.Calls.{Carried, CarriesBack};
 
 use line::Line;

@@ -5,6 +5,6 @@ use Rattle.arithmetic.proofs.divide.brought_down.Goals as goal
 
 pub loop-i-preserved : goal.loop-i-preserved
 loop-i-preserved c = (
-  c.taken-off-left-over.ensures.below,
-  bit-more (λ left bit. reduced c.args.degree c.args.divisor (2 * left + bit)) c.loop-i.left_over c.loop-i.i c.args.value _ (omega arith) c.taken-off-left-over.ensures.value ∙ c.loop-i.invariant.1,
+  c.taken_off-left_over.ensures.below,
+  bit-more (λ left bit. reduced c.args.degree c.args.divisor (2 * left + bit)) c.loop-i.left_over c.loop-i.i c.args.value _ (omega arith) c.taken_off-left_over.ensures.value ∙ c.loop-i.invariant.1,
 )

@@ -3,4 +3,4 @@ use Rattle.seal.specs.Rounds.{mixed-cycles}
 use Rattle.seal.proofs.xtea.Xtea.cycle.Goals as goal
 
 pub returns : goal.returns
-returns c = c.mixed-by.ensures ∙ mixed-cycles c.args.self.now.key 32 c.args.words
+returns c = c.mixed_by.ensures ∙ mixed-cycles c.args.self.now.key 32 c.args.words

@@ -8,4 +8,4 @@ unfolding mixed_by
 loop-i-init c = refl
 
 pub loop-i-preserved : goal.loop-i-preserved
-loop-i-preserved c = c.mix-words.ensures ∙ mixed-more _ c.loop-i.i _ _ _ c.round-key.ensures c.loop-i.invariant
+loop-i-preserved c = c.mix-words.ensures ∙ mixed-more _ c.loop-i.i _ _ _ c.round_key.ensures c.loop-i.invariant

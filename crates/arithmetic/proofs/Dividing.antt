@@ -57,8 +57,8 @@ module _ (d p : ℕ) (most : d ≤ 8) (lp : 2 ^ d ≤ p) (hp : p < 2 * 2 ^ d) wh
   check-remainder ns r e = subst (λ (n : ℕ). IsRemainder d p (number_from_digits 2 (check_message d ns)) n) (sym e) (long-division d p lp hp (check_message d ns) (message-bits ns))
 
   -- what a division by this divisor keeps
-  pub division-kept : {degree divisor rest : ℕ} → degree ≡ d → divisor ≡ p → rest < 2 ^ d → (degree ≤ 8) × ((2 ^ degree ≤ divisor) × ((divisor < 2 * 2 ^ degree) × ((rest < 2 ^ degree) × Unit {0})))
-  division-kept ed ep h = rw (ed, ep) (most, (lp, (hp, (h, tt))))
+  pub division-kept : {degree divisor rest : ℕ} → degree ≡ d → divisor ≡ p → rest < 2 ^ d → record { small : degree ≤ 8; leading : 2 ^ degree ≤ divisor; whole : divisor < 2 * 2 ^ degree; below : rest < 2 ^ degree }
+  division-kept ed ep h = record { small = rw ed most; leading = rw (ed, ep) lp; whole = rw (ed, ep) hp; below = rw ed h }
 
   pub division-rest : (division : Division) → division.degree ≡ d → division.rest < 2 ^ d
   division-rest division e = subst (λ (n : ℕ). division.rest < 2 ^ n) e division.below

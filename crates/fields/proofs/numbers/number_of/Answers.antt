@@ -3,11 +3,11 @@ use Rattle.arithmetic.proofs.Bases.{more-below}
 use Rattle.fields.proofs.Places.{room, number_more, number-all}
 use Rattle.fields.proofs.numbers.number_of.Goals as goal
 
-pub overflow-mul-sum : goal.overflow-mul-sum
-overflow-mul-sum c = let r = room c.loop-value.value-index c.loop-value.sum (omega arith) c.loop-value.invariant.1 in search rules
+pub overflow_mul-sum : goal.overflow_mul-sum
+overflow_mul-sum c = let r = room c.loop-value.value-index c.loop-value.sum (omega arith) c.loop-value.invariant.1 in search rules
 
-pub overflow-add-sum : goal.overflow-add-sum
-overflow-add-sum c = let r = room c.loop-value.value-index c.loop-value.sum (omega arith) c.loop-value.invariant.1 in search rules
+pub overflow_add-sum : goal.overflow_add-sum
+overflow_add-sum c = let r = room c.loop-value.value-index c.loop-value.sum (omega arith) c.loop-value.invariant.1 in search rules
 
 pub loop-value-preserved : goal.loop-value-preserved
 loop-value-preserved c =

@@ -8,12 +8,12 @@ use Rattle.fields.proofs.read.body_values.Goals as goal
 
 pub returns : goal.returns
 returns c =
-    let vs = c.as-slice.result.now in
+    let vs = c.as_slice.result.now in
     let ns = values_in c.args.frame.now in
-    let same : length vs ≡ length ns = sym (length-map vs number_of) ∙ ap length c.as-slice.ensures.values in
-    let counted = blocks-counted (length ns) (ap frame_length (sym same) ∙ c.as-slice.ensures.whole) in
+    let same : length vs ≡ length ns = sym (length-map vs number_of) ∙ ap length c.as_slice.ensures.values in
+    let counted = blocks-counted (length ns) (ap frame_length (sym same) ∙ c.as_slice.ensures.whole) in
     record {
-      values = ap numbers (take_rest vs 15) ∙ sym (drop-map number_of 15 vs) ∙ ap (drop 15) c.as-slice.ensures.values;
+      values = ap numbers (take_rest vs 15) ∙ sym (drop-map number_of 15 vs) ∙ ap (drop 15) c.as_slice.ensures.values;
       long = ap length (take_rest vs 15) ∙ length-drop 15 vs ∙ omega (arith, counted.0);
       some = counted.1;
       few = counted.2;

@@ -11,8 +11,8 @@ loop-k-init c = cut-none (numbers c.args.values.now)
 pub pow-requires : goal.pow-requires
 pow-requires c = omega (arith, spare-below c.loop-k.k (omega arith))
 
-pub cut-block-cut-requires : goal.cut-block-cut-requires
-cut-block-cut-requires c =
+pub cut_block-cut-requires : goal.cut_block-cut-requires
+cut_block-cut-requires c =
     let k = c.loop-k.k in
     let few = spare-below k (omega arith) in
     let more = spare_more k in
@@ -21,15 +21,15 @@ cut-block-cut-requires c =
 pub loop-k-preserved : goal.loop-k-preserved
 loop-k-preserved c =
     let k = c.loop-k.k in
-    let cut = c.cut-block-cut.ensures in
-    let block = c.cut-block-cut.result.block in
-    let rest = c.cut-block-cut.result.rest in
+    let cut = c.cut_block-cut.ensures in
+    let block = c.cut_block-cut.result.block in
+    let rest = c.cut_block-cut.result.rest in
     cut-more (numbers c.args.values.now) c.loop-k.closed _ k c.loop-k.rest block rest (omega arith) (rw length-map (omega arith)) cut.block
     (subst (λ (n : ℕ). rest < n) c.pow.ensures cut.below) (part-numbers c.args.values.now (11 * k) 11)
     (ap (λ n. block * n + rest) (sym c.pow.ensures) ∙ cut.whole) c.loop-k.invariant
 
-pub invariant-of-result : goal.invariant-of-result
-invariant-of-result c =
+pub invariant_of-result : goal.invariant_of-result
+invariant_of-result c =
     let all = cut_all (numbers c.args.values.now) c.loop-k.closed c.args.size c.loop-k.k c.loop-k.rest (omega arith) (omega arith) (rw length-map (omega arith)) c.loop-k.invariant in
     (omega arith, (omega arith, (all.2, (all.3, tt))))
 

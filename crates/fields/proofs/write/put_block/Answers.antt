@@ -6,15 +6,15 @@ use Rattle.arithmetic.proofs.Bases.{number_digits}
 use Rattle.fields.proofs.Cuts.{front_rest}
 use Rattle.fields.proofs.write.put_block.Goals as goal
 
-pub overflow-cast-result : goal.overflow-cast-result
-overflow-cast-result c = let h = front_rest c.args.block c.args.spare c.args.rest (omega arith) (omega arith) in record { fits = omega arith }
+pub overflow_cast-result : goal.overflow_cast-result
+overflow_cast-result c = let h = front_rest c.args.block c.args.spare c.args.rest (omega arith) (omega arith) in record { fits = omega arith }
 
 pub returns : goal.returns
 returns c =
     let bits = c.args.block * c.args.spare + c.args.rest in
     record {
       whole =
-          ap (λ x. bits / 64 ^ 11 * 64 ^ 11 + number_from_digits 64 x) c.put-number.ensures
+          ap (λ x. bits / 64 ^ 11 * 64 ^ 11 + number_from_digits 64 x) c.put_number.ensures
           ∙ ap (λ k. bits / 64 ^ 11 * 64 ^ 11 + number_from_digits 64 (digits 64 k bits)) c.requires.0
           ∙ ap (λ x. bits / 64 ^ 11 * 64 ^ 11 + x) (number_digits 64 (omega arith) 11 bits)
           ∙ div-add-mod' bits (64 ^ 11);

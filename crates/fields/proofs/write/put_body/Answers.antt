@@ -17,8 +17,8 @@ loop-k-init c =
 pub pow-requires : goal.pow-requires
 pow-requires c = omega (arith, spare-below (c.loop-k.k - 1) (omega arith))
 
-pub put-block-rest-requires : goal.put-block-rest-requires
-put-block-rest-requires c =
+pub put_block-rest-requires : goal.put_block-rest-requires
+put_block-rest-requires c =
     let j = c.loop-k.k - 1 in
     let next : j + 1 ≡ c.loop-k.k = omega arith in
     let few = spare-below j (omega arith) in
@@ -29,13 +29,13 @@ loop-k-preserved c =
     let body = c.args.body.now in
     let j = c.loop-k.k - 1 in
     let next : 11 * j + 11 ≡ 11 * c.loop-k.k = omega arith in
-    let put = c.put-block-rest.ensures in
-    let ws = numbers c.put-block-rest.new.values in
-    put-more body.size (blocks_of body) (numbers c.loop-k.values) body.filling c.loop-k.k c.loop-k.rest c.put-block-rest.result ws _ (omega arith) (omega arith)
+    let put = c.put_block-rest.ensures in
+    let ws = numbers c.put_block-rest.new.values in
+    put-more body.size (blocks_of body) (numbers c.loop-k.values) body.filling c.loop-k.k c.loop-k.rest c.put_block-rest.result ws _ (omega arith) (omega arith)
     (length-take-le body.size body.blocks (search rules)) (length-map c.loop-k.values _ ∙ omega arith)
     (put.whole ∙ ap (λ n. get_or body.blocks j 0 * n + c.loop-k.rest) c.pow.ensures ∙ ap (λ b. b * 4 ^ (j + 1) + c.loop-k.rest) (sym (get_or-take body.size body.blocks j 0 (omega arith))))
-    (subst (λ (n : ℕ). c.put-block-rest.result * 4 < n) c.pow.ensures put.below)
-    (part-behind c.loop-k.values c.put-block-rest.new.values (11 * j) 11 (omega arith) ∙ ap (λ i. ws ++ drop i (numbers c.loop-k.values)) next) c.loop-k.invariant
+    (subst (λ (n : ℕ). c.put_block-rest.result * 4 < n) c.pow.ensures put.below)
+    (part-behind c.loop-k.values c.put_block-rest.new.values (11 * j) 11 (omega arith) ∙ ap (λ i. ws ++ drop i (numbers c.loop-k.values)) next) c.loop-k.invariant
 
 pub returns : goal.returns
 returns c =

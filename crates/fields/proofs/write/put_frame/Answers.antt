@@ -6,6 +6,6 @@ use Rattle.fields.proofs.write.put_frame.Goals as goal
 
 pub returns : goal.returns
 returns c =
-    let header = c.put-header.new.values in
-    let body = c.put-body.new.values in
-    parts-joined header _ body 15 (search rules) ∙ ap (λ vs. vs ++ numbers body) c.put-header.ensures ∙ ap (λ vs. header_values c.args.header.now ++ vs) c.put-body.ensures
+    let header = c.put_header.new.values in
+    let body = c.put_body.new.values in
+    parts-joined header _ body 15 (search rules) ∙ ap (λ vs. vs ++ numbers body) c.put_header.ensures ∙ ap (λ vs. header_values c.args.header.now ++ vs) c.put_body.ensures

@@ -9,14 +9,14 @@ pub returns : goal.returns
 unfolding header_values
 returns c =
     let h = c.args.header.now in
-    let last = numbers c.put-field-7.new.values in
+    let last = numbers c.put_field-7.new.values in
     sym (take_all 15 last (rw length-map (omega arith)))
-    ∙ c.put-field-7.ensures
+    ∙ c.put_field-7.ensures
     ∙ ap (λ vs. vs ++ digits 64 1 h.size)
-    (c.put-field-6.ensures
+    (c.put_field-6.ensures
     ∙ ap (λ vs. vs ++ digits 64 1 h.frame_type)
-    (c.put-field-5.ensures
+    (c.put_field-5.ensures
     ∙ ap (λ vs. vs ++ digits 64 2 h.source)
-    (c.put-field-4.ensures
+    (c.put_field-4.ensures
     ∙ ap (λ vs. vs ++ digits 64 6 h.network)
-    (c.put-field-3.ensures ∙ ap (λ vs. vs ++ digits 64 2 h.destination) (c.put-field-2.ensures ∙ ap (λ vs. vs ++ digits 64 1 0) c.put-field.ensures)))))
+    (c.put_field-3.ensures ∙ ap (λ vs. vs ++ digits 64 2 h.destination) (c.put_field-2.ensures ∙ ap (λ vs. vs ++ digits 64 1 0) c.put_field.ensures)))))

@@ -10,13 +10,13 @@ returns g c =
     let line = g.met.L.Line.lawful c.args.line.now in
     let seal = g.met.S.Seal.lawful c.args.seal.now in
     let header = c.args.header.now in
-    let body = c.sealed-body-body.result in
-    let sealed = c.sealed-body-body.ensures in
-    let values = values_in c.frame-values.result in
-    let none = sym c.build-refusal.ensures ∙ c.in-default.is in
-    let written = c.in-ok-write.ensures in
+    let body = c.sealed_body-body.result in
+    let sealed = c.sealed_body-body.ensures in
+    let values = values_in c.frame_values.result in
+    let none = sym c.build_refusal.ensures ∙ c.in_default.is in
+    let written = c.in_ok-write.ensures in
     record {
-      built = built-frame wire line seal header c.args.behind.now c.args.out.now c.write.new.out body values c.in-ok-write.field-0 none sealed.size sealed.closed sealed.filling sealed.bytes c.frame-values.ensures written;
-      opens = opens-again wire line seal header c.args.behind.now c.args.out.now c.write.new.out body values c.in-ok-write.field-0 none sealed.size sealed.closed sealed.filling sealed.bytes c.frame-values.ensures written;
-      alone = built-alone wire line seal header c.args.behind.now c.args.out.now c.write.new.out body values c.in-ok-write.field-0 none sealed.size sealed.closed sealed.filling sealed.bytes c.frame-values.ensures written;
+      built = built-frame wire line seal header c.args.behind.now c.args.out.now c.write.new.out body values c.in_ok-write.field-0 none sealed.size sealed.closed sealed.filling sealed.bytes c.frame_values.ensures written;
+      opens = opens-again wire line seal header c.args.behind.now c.args.out.now c.write.new.out body values c.in_ok-write.field-0 none sealed.size sealed.closed sealed.filling sealed.bytes c.frame_values.ensures written;
+      alone = built-alone wire line seal header c.args.behind.now c.args.out.now c.write.new.out body values c.in_ok-write.field-0 none sealed.size sealed.closed sealed.filling sealed.bytes c.frame_values.ensures written;
     }

@@ -7,8 +7,8 @@ pub returns : goal.returns
 returns g c =
     let wire = wire_of (g.L.Line.code c.args.line.now) (g.S.Seal.code c.args.seal.now) in
     record {
-      opened = opened-front wire c.args.network c.args.destination c.args.frame.now c.args.work.now c.open-into.new.work c.open-into.result (omega arith) c.open-into.ensures;
-      formed = well-formed wire c.args.network c.args.destination c.args.frame.now c.open-into.new.work c.open-into.result c.open-into.ensures;
-      again = builds-again wire (g.met.S.Seal.lawful c.args.seal.now) c.args.network c.args.destination c.args.frame.now c.open-into.new.work c.open-into.result c.open-into.ensures;
-      alone = opens-alone wire (g.met.S.Seal.lawful c.args.seal.now) c.args.network c.args.destination c.args.frame.now c.open-into.new.work c.open-into.result c.open-into.ensures;
+      opened = opened-front wire c.args.network c.args.destination c.args.frame.now c.args.work.now c.open_into.new.work c.open_into.result (omega arith) c.open_into.ensures;
+      formed = well-formed wire c.args.network c.args.destination c.args.frame.now c.open_into.new.work c.open_into.result c.open_into.ensures;
+      again = builds-again wire (g.met.S.Seal.lawful c.args.seal.now) c.args.network c.args.destination c.args.frame.now c.open_into.new.work c.open_into.result c.open_into.ensures;
+      alone = opens-alone wire (g.met.S.Seal.lawful c.args.seal.now) c.args.network c.args.destination c.args.frame.now c.open_into.new.work c.open_into.result c.open_into.ensures;
     }

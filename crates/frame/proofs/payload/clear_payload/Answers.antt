@@ -9,6 +9,6 @@ returns c =
     let count = length behind in
     let end : 1 + count - 1 ≡ count = omega arith in
     let zeros = drop (1 + count - 1) (replicate 23 0) in
-    ap (λ check. check ∷ (c.copy-from-slice.new.self ++ zeros)) c.check-byte.ensures.value
-    ∙ ap (λ bytes. check_byte behind ∷ (bytes ++ zeros)) c.copy-from-slice.ensures.after
+    ap (λ check. check ∷ (c.copy_from_slice.new.self ++ zeros)) c.check_byte.ensures.value
+    ∙ ap (λ bytes. check_byte behind ∷ (bytes ++ zeros)) c.copy_from_slice.ensures.after
     ∙ ap (λ bytes. check_byte behind ∷ (behind ++ bytes)) (ap (λ n. drop n (replicate 23 0)) end ∙ drop-replicate count 23 0)

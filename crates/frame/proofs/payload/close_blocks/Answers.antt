@@ -13,9 +13,9 @@ pub loop-k-preserved : goal.loop-k-preserved
 loop-k-preserved g c =
     let f = (g.S.Seal.code c.args.seal.now).closed in
     let i = c.loop-k.invariant in
-    let under = c.block-at.ensures.bytes in (
+    let under = c.block_at.ensures.bytes in (
       length-set c.loop-k.closed c.loop-k.k c.close.result ∙ i.0,
-      block_closed f c.args.payload.now c.loop-k.closed c.loop-k.k c.close.result (omega (arith, i.0)) (omega arith) under (c.close.ensures ∙ ap f c.block-at.ensures.value) i.1,
+      block_closed f c.args.payload.now c.loop-k.closed c.loop-k.k c.close.result (omega (arith, i.0)) (omega arith) under (c.close.ensures ∙ ap f c.block_at.ensures.value) i.1,
       λ h. under,
       blank-fewer c.loop-k.closed c.loop-k.k c.close.result i.3,
     )

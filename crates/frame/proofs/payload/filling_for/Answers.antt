@@ -14,8 +14,8 @@ filled g c = ap (λ t. t * c.pow.result) c.technique.ensures ∙ ap (λ p. (g.S.
 below : (g : given.Over) (c : goal.After-pow g) → c.technique.result * c.pow.result < 4 ^ c.args.size
 below g c = subst (λ (n : ℕ). n < 4 ^ c.args.size) (sym (filled g c)) (technique-fits (g.S.Seal.code c.args.seal.now).technique c.args.size (g.met.S.Seal.lawful c.args.seal.now).two_bits (omega arith))
 
-pub overflow-mul-result : goal.overflow-mul-result
-overflow-mul-result g c =
+pub overflow_mul-result : goal.overflow_mul-result
+overflow_mul-result g c =
     let most = pow-le-pow_right {n = 4} (omega arith) {i = c.args.size} {j = 3} (omega arith) in
     record { fits = omega (arith, below g c) }
 

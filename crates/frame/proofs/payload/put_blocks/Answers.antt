@@ -10,9 +10,9 @@ loop-k-preserved g c =
     let f = (g.S.Seal.code c.args.seal.now).opened in
     let k = c.loop-k.k in
     let j = 8 * k + 8 - 8 * k in
-    let bytes = c.copy-from-slice.new.self in
-    let put = c.copy-from-slice.ensures.after ∙ c.to-be-bytes.ensures ∙ block-bytes c.open.result in (
-      block-opened f c.args.body.now.blocks c.loop-k.work bytes k j c.open.result (search rules) (omega arith) c.open.type-inv c.open.ensures put c.loop-k.invariant.0,
+    let bytes = c.copy_from_slice.new.self in
+    let put = c.copy_from_slice.ensures.after ∙ c.to_be_bytes.ensures ∙ block-bytes c.open.result in (
+      block-opened f c.args.body.now.blocks c.loop-k.work bytes k j c.open.result (search rules) (omega arith) c.open.type_inv c.open.ensures put c.loop-k.invariant.0,
       behind-kept c.loop-k.work bytes c.args.work.now k j (omega arith) (search rules) (omega arith) c.loop-k.invariant.1,
     )
 

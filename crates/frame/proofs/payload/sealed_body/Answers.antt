@@ -8,11 +8,11 @@ pub returns : goal.returns
 returns g c =
     let behind = c.args.behind.now in
     let size = c.args.size in
-    let front : take (8 * size - 0) c.clear-payload-payload.result ≡ with_check_byte behind =
-    ap (take (8 * size - 0)) c.clear-payload-payload.ensures ∙ take_at (with_check_byte behind) (replicate (23 - length behind) 0) (8 * size - 0) (omega arith) in
+    let front : take (8 * size - 0) c.clear_payload-payload.result ≡ with_check_byte behind =
+    ap (take (8 * size - 0)) c.clear_payload-payload.ensures ∙ take_at (with_check_byte behind) (replicate (23 - length behind) 0) (8 * size - 0) (omega arith) in
     record {
       size = refl;
-      closed = c.close-blocks.ensures.closed ∙ ap (closed_from (g.S.Seal.code c.args.seal.now) size) front;
-      filling = c.filling-for.ensures.value;
-      bytes = subst (λ (bs : List ℕ). AllBelowBase 256 bs) front c.close-blocks.ensures.bytes;
+      closed = c.close_blocks.ensures.closed ∙ ap (closed_from (g.S.Seal.code c.args.seal.now) size) front;
+      filling = c.filling_for.ensures.value;
+      bytes = subst (λ (bs : List ℕ). AllBelowBase 256 bs) front c.close_blocks.ensures.bytes;
     }

@@ -13,6 +13,6 @@ returns-in-Ok c =
     let payload = (fields_of plain_cable frame).payload in
     let end = 8 * c.in-Ok.header.size - 0 in
     let front : take end c.open.new.work ≡ payload = ap (take end) told.2 ∙ held-payload payload (replicate 24 0) end (formed.3 ∙ omega arith) in
-    IfOk-weaker c.explain-fields.result _ _
+    IfOk-weaker c.explain_fields.result _ _
     (λ t e. e ∙ ap (λ bytes. header_line c.in-Ok.header ++ content_line bytes ++ check_line bytes) front ∙ ap (λ h. header_line h ++ content_line payload ++ check_line payload) told.1 ∙ sym (ap (λ o. explained_by o frame) told.0))
-    c.explain-fields.ensures
+    c.explain_fields.ensures

@@ -5,5 +5,5 @@ use Rattle.inspect.proofs.explain.explain_fields.Goals as goal
 
 pub returns : goal.returns
 returns c =
-    let content = more c.in-ok-appended.ensures c.in-ok-header.ensures (c.deref.ensures.value ∙ c.in-ok-content.ensures) in
-    IfOk-weaker c.appended-2.result _ _ (λ t e. more e content (c.deref-2.ensures.value ∙ c.in-ok-check.ensures)) c.appended-2.ensures
+    let content = more c.in_ok-appended.ensures c.in_ok-header.ensures (c.deref.ensures.value ∙ c.in_ok-content.ensures) in
+    IfOk-weaker c.appended-2.result _ _ (λ t e. more e content (c.deref-2.ensures.value ∙ c.in_ok-check.ensures)) c.appended-2.ensures

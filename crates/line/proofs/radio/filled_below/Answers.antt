@@ -9,7 +9,7 @@ loop-number-init c = (refl, reads_none)
 pub loop-number-preserved : goal.loop-number-preserved
 loop-number-preserved c = (
   simp length-set c.loop-number.invariant.0,
-  reads_more c.loop-number.number _ _ c.loop-number.values c.loop-number.invariant.0 refl c.symbol-of.ensures (search rules) c.loop-number.invariant.1,
+  reads_more c.loop-number.number _ _ c.loop-number.values c.loop-number.invariant.0 refl c.symbol_of.ensures (search rules) c.loop-number.invariant.1,
 )
 
 pub returns : goal.returns

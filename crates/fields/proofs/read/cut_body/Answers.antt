@@ -31,7 +31,7 @@ loop-k-preserved c =
 pub invariant_of-result : goal.invariant_of-result
 invariant_of-result c =
     let all = cut_all (numbers c.args.values.now) c.loop-k.closed c.args.size c.loop-k.k c.loop-k.rest (omega arith) (omega arith) (rw length-map (omega arith)) c.loop-k.invariant in
-    (omega arith, (omega arith, (all.2, (all.3, tt))))
+    record { some = omega arith; few = omega arith; fits = all.2; blank = all.3 }
 
 pub returns : goal.returns
 returns c =

@@ -9,7 +9,7 @@ use Rattle.std.specs.Int.Digits.{number_from_digits as number, number_from_digit
 use Rattle.arithmetic.specs.Digits.{digits}
 use Rattle.line.specs.declared.six_bit.SixBit.{SixBit}
 use Rattle.line.specs.Values.{number_of, numbers}
-use Rattle.line.specs.Numbers.{number_at}
+use Rattle.line.proofs.Numbers.{number_at}
 
 -- a number of few values leaves room for one more
 pub room : (i sum : ℕ) → i < 11 → sum < 64 ^ i → sum < 64 ^ 10

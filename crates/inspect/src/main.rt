@@ -1,10 +1,12 @@
 // Reads lines of cable frames for a network and a device, and explains each.
 #![tactic(auto)]
 
+use anyhow::bail;
 use expect::{Expected, expected_from};
 use explain::explain;
 use std::env;
 use std::io::{BufRead, BufReader, Write};
+use std::process::ExitCode;
 use text::frame_in;
 
 mod expect;
@@ -19,11 +21,11 @@ fn expected(rt: &HostRuntime) -> anyhow::Result<Expected> {
     let mut words = env::args(rt)?;
     let _program = words.next();
     let (Some(network), Some(did), None) = (words.next(), words.next(), words.next()) else {
-        return Err(USAGE.into());
+        bail!("{USAGE}");
     };
     match expected_from(network.as_bytes(), did.as_bytes()) {
         Some(expected) => Ok(expected),
-        None => Err(USAGE.into()),
+        None => bail!("{USAGE}"),
     }
 }
 
@@ -43,10 +45,12 @@ fn run(rt: &HostRuntime) -> anyhow::Result<()> {
     Ok(())
 }
 
-fn main(rt: HostRuntime) -> anyhow::Result<()> {
-    let ended = run(&rt);
-    if let Err(error) = &ended {
-        let _ = eprintln!(rt; "inspect: {error}");
+fn main(rt: HostRuntime) -> ExitCode {
+    match run(&rt) {
+        Ok(()) => ExitCode::SUCCESS,
+        Err(error) => {
+            let _ = eprintln!(rt; "inspect: {error}");
+            ExitCode::FAILURE
+        }
     }
-    ended
 }

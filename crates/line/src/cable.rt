@@ -4,8 +4,7 @@ ghost use Rattle.std.specs.Int.Digits.{number_from_digits};
 ghost use Rattle.line.specs.Values.{number_of, numbers};
 ghost use Rattle.arithmetic.specs.Division.{check_message, IsRemainder};
 ghost use Rattle.line.specs.Cable.{cable};
-ghost use Rattle.std.proofs.Common.{arith};
-ghost use Rattle.arithmetic.proofs.Dividing.{check-below};
+ghost use Rattle.line.specs.Laws.{cable-lawful};
 
 use crate::Line;
 use crate::six_bit::SixBit;
@@ -18,12 +17,7 @@ pub struct Cable;
 impl Line for Cable {
     ghost code = { λ _. cable };
 
-    ghost lawful = { λ l.
-        record {
-          byte = λ v h. omega arith;
-          distinct = λ v w hv hw e. omega arith;
-          six_bits = λ vs h. check-below 6 0x43 (omega arith) (omega arith) (omega arith) vs;
-        } };
+    ghost lawful = { λ _. cable-lawful };
 
     fn symbol(&self, value: SixBit) -> u8 {
         value.number + 0x30

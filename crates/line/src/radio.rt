@@ -6,10 +6,7 @@ ghost use Rattle.arithmetic.specs.Digits.{digits, bits_of};
 ghost use Rattle.arithmetic.specs.Division.{IsRemainder};
 ghost use Rattle.line.specs.Code.{Reads};
 ghost use Rattle.line.specs.Radio.{radio_symbol, moved_up, register_after, radio_message, radio, ReadsBelow};
-ghost use Rattle.std.proofs.Common.{arith};
-ghost use Rattle.arithmetic.proofs.Folds.{bits_of-under};
-ghost use Rattle.line.specs.Radios.{symbol-byte, symbol-distinct};
-ghost use Rattle.line.specs.Registers.{register-below};
+ghost use Rattle.line.specs.Laws.{radio-lawful};
 
 use crate::Line;
 use crate::six_bit::SixBit;
@@ -92,12 +89,7 @@ impl Radio {
 impl Line for Radio {
     ghost code = { λ _. radio };
 
-    ghost lawful = { λ l.
-        record {
-          byte = symbol-byte;
-          distinct = symbol-distinct;
-          six_bits = λ vs h. omega (arith, register-below (bits_of 8 (map radio_symbol vs)) (bits_of-under 8 (map radio_symbol vs)));
-        } };
+    ghost lawful = { λ _. radio-lawful };
 
     fn symbol(&self, value: SixBit) -> u8 {
         symbol_of(value)

@@ -1,4 +1,4 @@
 pub mod Code
 pub mod Plain
 pub mod Xtea
-pub mod Rounds
+pub mod Laws

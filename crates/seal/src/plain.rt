@@ -1,6 +1,6 @@
 // The plain seal.
 ghost use Rattle.seal.specs.Plain.{plain};
-ghost use Rattle.std.proofs.Common.{rules};
+ghost use Rattle.seal.specs.Laws.{plain-lawful};
 
 use crate::Seal;
 
@@ -11,7 +11,7 @@ pub struct Plain;
 impl Seal for Plain {
     ghost code = { λ _. plain };
 
-    ghost lawful = { Prim.search rules };
+    ghost lawful = { λ _. plain-lawful };
 
     fn technique(&self) -> u8 {
         0

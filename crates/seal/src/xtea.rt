@@ -1,7 +1,7 @@
 // XTEA with 32 cycles and a key of 128 bits.
 ghost use Rattle.std.specs.Prelude.{◌≡◌, ◌<◌, ◌≤◌};
 ghost use Rattle.seal.specs.Xtea.{key_words, words_of, block_of, stirred, running_sum, key_place, round_key, mixed, unmixed, mixed_by, unmixed_by, cycled, xtea};
-ghost use Rattle.seal.specs.Rounds.{xtea-lawful};
+ghost use Rattle.seal.specs.Laws.{xtea-lawful};
 
 use crate::Seal;
 use crate::words::Words;

@@ -10,7 +10,7 @@ use Rattle.std.specs.Int.Digits.{AllBelowBase}
 use Rattle.line.specs.declared.six_bit.SixBit.{SixBit}
 use Rattle.line.specs.Values.{numbers}
 use Rattle.line.specs.Code.{LineCode, Lawful, value_of}
-use Rattle.line.specs.Codes.{symbol-value, value-small, value-symbol}
+use Rattle.line.proofs.Codes.{symbol-value, value-small, value-symbol}
 use Rattle.wire.specs.declared.fault.LineFault.TheVariants.{Length, NoSymbol, Check}
 use Rattle.wire.specs.Frames.{frame_length, first_no_symbol, or_later, values_of, check_over, check_holds, with_check, symbols_of}
 use Rattle.wire.specs.declared.fault.CarryFault.TheVariants.{Buffer, Line}

@@ -4,7 +4,7 @@ use Rattle.std.proofs.lemmas.List.{drop_more, drop_all, take_all, take_at, take_
 use Rattle.line.specs.declared.six_bit.SixBit.{SixBit}
 use Rattle.line.specs.Values.{number_of, numbers}
 use Rattle.line.specs.Code.{LineCode, value_of}
-use Rattle.line.specs.Numbers.{number_at}
+use Rattle.line.proofs.Numbers.{number_at}
 use Rattle.wire.specs.Frames.{first_no_symbol, values_of, check_holds}
 
 module _ (code : LineCode) (bytes : List ℕ) (i : ℕ) where

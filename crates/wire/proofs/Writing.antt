@@ -4,7 +4,7 @@ use Rattle.std.proofs.lemmas.List.{take_all, take_more, take_more_set, map-set, 
 use Rattle.line.specs.declared.six_bit.SixBit.{SixBit}
 use Rattle.line.specs.Values.{number_of, numbers}
 use Rattle.line.specs.Code.{LineCode}
-use Rattle.line.specs.Numbers.{number_at}
+use Rattle.line.proofs.Numbers.{number_at}
 use Rattle.wire.specs.Frames.{symbols_of}
 use Rattle.wire.proofs.Reading.{behind-check}
 

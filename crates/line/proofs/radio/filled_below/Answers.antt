@@ -1,6 +1,6 @@
 use Rattle.std.proofs.Common.{◌≡◌, ℕ, refl, subst, arith, length-set, rules}
 use Rattle.line.specs.Radio.{ReadsBelow}
-use Rattle.line.specs.Radios.{reads_none, reads_more}
+use Rattle.line.proofs.Radios.{reads_none, reads_more}
 use Rattle.line.proofs.radio.filled_below.Goals as goal
 
 pub loop-number-init : goal.loop-number-init

@@ -1,7 +1,7 @@
 use Rattle.std.proofs.Common.{get_or, Some, None, sym, ap, ◌∙◌, arith}
 use Rattle.std.specs.Option.{option_map}
 use Rattle.line.specs.Values.{number_of}
-use Rattle.line.specs.Codes.{read-value}
+use Rattle.line.proofs.Codes.{read-value}
 use Rattle.wire.specs.declared.fault.LineFault.TheVariants.{NoSymbol}
 use Rattle.wire.proofs.Reading.{no-symbol-here, symbol-here, symbols-all, value-more, values-all}
 use Rattle.wire.proofs.read.decode.Goals as goal

@@ -3,7 +3,7 @@ use Rattle.std.proofs.lemmas.List.{length-map}
 use Rattle.arithmetic.specs.Division.{check_of}
 use Rattle.arithmetic.proofs.Dividing.{division-kept, division-more, division-rest, division-end, check-remainder}
 use Rattle.line.specs.Values.{numbers}
-use Rattle.line.specs.Numbers.{number_at}
+use Rattle.line.proofs.Numbers.{number_at}
 use Rattle.line.proofs.cable.CableLine.check.Goals as goal
 
 pub invariant_of-division : goal.invariant_of-division

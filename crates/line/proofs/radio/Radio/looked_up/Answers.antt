@@ -1,5 +1,5 @@
 use Rattle.std.proofs.Common.{rules}
-use Rattle.line.specs.Radios.{reads}
+use Rattle.line.proofs.Radios.{reads}
 use Rattle.line.proofs.radio.Radio.looked_up.Goals as goal
 
 pub returns : goal.returns

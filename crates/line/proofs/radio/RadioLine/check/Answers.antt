@@ -3,8 +3,8 @@ use Rattle.line.specs.Values.{numbers}
 use Rattle.arithmetic.specs.Digits.{bits_of}
 use Rattle.line.specs.Radio.{radio_symbol, radio, register_over}
 use Rattle.arithmetic.proofs.Folds.{bits_of-under}
-use Rattle.line.specs.Radios.{radio-step, radio-end}
-use Rattle.line.specs.Registers.{register-remainder}
+use Rattle.line.proofs.Radios.{radio-step, radio-end}
+use Rattle.line.proofs.Registers.{register-remainder}
 use Rattle.line.proofs.radio.RadioLine.check.Goals as goal
 
 pub loop-value-preserved : goal.loop-value-preserved

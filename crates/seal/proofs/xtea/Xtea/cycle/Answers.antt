@@ -1,5 +1,5 @@
 use Rattle.std.proofs.Common.{◌∙◌}
-use Rattle.seal.specs.Rounds.{mixed-cycles}
+use Rattle.seal.specs.Laws.{mixed-cycles}
 use Rattle.seal.proofs.xtea.Xtea.cycle.Goals as goal
 
 pub returns : goal.returns

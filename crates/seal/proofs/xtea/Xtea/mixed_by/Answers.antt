@@ -1,6 +1,6 @@
 use Rattle.std.proofs.Common.{refl, ◌∙◌}
 use Rattle.seal.specs.Xtea.{mixed_by}
-use Rattle.seal.specs.Rounds.{mixed-more}
+use Rattle.seal.proofs.Rounds.{mixed-more}
 use Rattle.seal.proofs.xtea.Xtea.mixed_by.Goals as goal
 
 pub loop-i-init : goal.loop-i-init

@@ -1,6 +1,6 @@
 use Rattle.std.proofs.Common.{◌-◌, ap, ◌∙◌, arith}
 use Rattle.seal.specs.Xtea.{unmixed_by}
-use Rattle.seal.specs.Rounds.{unmixed-fewer, unmixed-none}
+use Rattle.seal.proofs.Rounds.{unmixed-fewer, unmixed-none}
 use Rattle.seal.proofs.xtea.Xtea.unmixed_by.Goals as goal
 
 pub loop-i-preserved : goal.loop-i-preserved

@@ -1,13 +1,24 @@
--- Half rounds are taken back one by one, the last first, so XTEA is a lawful seal. Assumes nothing.
-use Rattle.std.specs.Prelude.{◌≡◌, ℕ, zero, suc, ◌+◌, ◌-◌, ◌*◌, ◌/◌, ◌%◌, ◌^◌, ◌<◌, ◌≤◌, List, bit_xor, slice_index}
+-- Why the two seals are lawful: half rounds of XTEA are taken back one by one, the last first. An impl names the proof of
+-- its law, and can name only what stands in specs/: nothing here needs to be believed. Assumes nothing.
+use Rattle.std.specs.Prelude.{◌≡◌, ℕ, zero, suc, ◌+◌, ◌*◌, ◌/◌, ◌%◌, ◌^◌, ◌<◌, List, bit_xor, slice_index}
 use Rattle.std.proofs.Math.Path.{refl, ap}
-use Rattle.std.proofs.Common.{sym, ◌∙◌, subst, add-one}
+use Rattle.std.proofs.Common.{sym, ◌∙◌, subst}
 use native.Mathlib.Omega.{arith}
 use Rattle.std.proofs.lemmas.Nat.{xor_lt}
 use Rattle.std.proofs.lemmas.Bool.{eq-eqb, ne_eqb}
 use Rattle.seal.specs.declared.words.Words.{Words}
 use Rattle.seal.specs.Code.{Lawful}
+use Rattle.seal.specs.Plain.{plain}
 use Rattle.seal.specs.Xtea.{plus, minus, words_of, block_of, stirred, sum_after, cycled, running_sum, round_key, mixed, unmixed, mixed_by, unmixed_by, xtea}
+
+pub plain-lawful : Lawful plain
+plain-lawful = record {
+  closed_block = λ block h. h;
+  opened_block = λ block h. h;
+  opens_closed = λ block h. refl;
+  closes_opened = λ block h. refl;
+  two_bits = omega arith;
+}
 
 -- both words have 32 bits
 abbrev Fit : Words → Type 0
@@ -63,21 +74,6 @@ module _ (key : List ℕ) where
   unfolding mixed_by unmixed_by
   all-unmixed-back zero = nothing
   all-unmixed-back (suc n) = in-turn (unmixed-back (round_key key n) (omega arith)) (all-unmixed-back n)
-
-  -- a turn of each loop: one half round more, and one fewer to take back
-  pub mixed-more : (i k : ℕ) (words start : Words) → k ≡ round_key key i → words ≡ mixed_by key i start → mixed k words ≡ mixed_by key (i + 1) start
-  unfolding mixed_by
-  mixed-more i k words start e came = rw (add-one i, e, came)
-
-  pub unmixed-fewer : (i k : ℕ) (words : Words) → 0 < i → k ≡ round_key key (i - 1) → unmixed_by key (i - 1) (unmixed k words) ≡ unmixed_by key i words
-  unfolding unmixed_by
-  unmixed-fewer zero k words h e = absurd (omega arith)
-  unmixed-fewer (suc n) k words h e = let less : suc n - 1 ≡ n = omega arith in rw (e, less)
-
-  pub unmixed-none : (i : ℕ) (words : Words) → i ≤ 0 → words ≡ unmixed_by key i words
-  unfolding unmixed_by
-  unmixed-none zero words h = refl
-  unmixed-none (suc n) words h = absurd (omega arith)
 
 -- two half rounds are a cycle
 module _ (key : List ℕ) where

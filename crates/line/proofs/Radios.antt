@@ -1,53 +1,17 @@
 -- What the radio line's table and register give. Assumes nothing.
-use Rattle.std.specs.Prelude.{◌≡◌, ℕ, zero, suc, ◌+◌, ◌-◌, ◌<◌, ◌≤◌, Bool, true, false, ◌&&◌, ◌≢◌, List, [], map, length, drop, replicate, Some, None, Option, ◌==◌, nat_lt, slice_index, slice_index_or, slice_set, refl}
+use Rattle.std.specs.Prelude.{◌≡◌, ℕ, ◌+◌, ◌<◌, ◌≤◌, true, ◌≢◌, List, [], map, length, drop, replicate, Some, None, Option, ◌==◌, slice_index, slice_index_or, slice_set, refl}
 use Rattle.std.proofs.Common.{ap, sym, ◌∙◌, subst, append-nil, arith, add-one}
 use Rattle.std.specs.Option.{option_map}
 use Rattle.std.proofs.lemmas.List.{drop_all, get_or-map, get_or_default, length-map, get_or-replicate, get_or-set_same, get_or-set_other}
-use Rattle.std.proofs.lemmas.Bool.{cond_both, eqb-true, eqb-false, ltb-true, eq-eqb, false≢true, and_parts}
-use Rattle.std.proofs.lemmas.Bool.Decides.{Decides-below_and}
+use Rattle.std.proofs.lemmas.Bool.{cond_both, eqb-true, eqb-false, eq-eqb, false≢true}
 use Rattle.line.specs.declared.six_bit.SixBit.{SixBit}
 use Rattle.line.specs.Values.{number_of, numbers}
 use Rattle.arithmetic.specs.Digits.{digits, bits_of}
 use Rattle.line.specs.Code.{Reads, value_below}
-use Rattle.line.specs.Radio.{radio_symbols, radio_symbol, moved_up, register_after, register_over, radio, agrees, ReadsBelow}
-use Rattle.line.specs.Codes.{searched}
-use Rattle.line.specs.Numbers.{number_at}
+use Rattle.line.specs.Radio.{radio_symbol, moved_up, register_after, register_over, radio, agrees, ReadsBelow}
+use Rattle.line.proofs.Codes.{searched}
+use Rattle.line.proofs.Numbers.{number_at}
 use Rattle.arithmetic.proofs.Folds.{number_more}
-
-is : Option ℕ → ℕ → Bool
-is None v = false
-is (Some w) v = w == v
-
-is_some : (o : Option ℕ) (v : ℕ) → is o v ≡ true → o ≡ Some v
-unfolding is
-is_some None v e = absurd (false≢true e)
-is_some (Some w) v e = ap (λ n. Some n) (eqb-true w v e)
-
--- a value's symbol is a byte, and is found again as the symbol of this value and of no later one
-stands : ℕ → Bool
-stands v = nat_lt (radio_symbol v) 256 && is (value_below radio_symbol 64 (radio_symbol v)) v
-
-all-stand : ℕ → Bool
-all-stand zero = true
-all-stand (suc n) = stands n && all-stand n
-
--- one test over the whole table, and what it says of each entry
-table-stands : (v : ℕ) → v < 64 → stands v ≡ true
-unfolding all-stand stands is value_below radio_symbol radio_symbols
-table-stands = (Decides-below_and stands (λ v. stands v ≡ true) all-stand (λ v. (λ e. e, λ e. e)) refl (λ n. refl) 64).0 refl
-
-pub symbol-byte : (v : ℕ) → v < 64 → radio_symbol v < 256
-unfolding stands
-symbol-byte v h = ltb-true (radio_symbol v) 256 (and_parts (nat_lt (radio_symbol v) 256) _ (table-stands v h)).0
-
-symbol-found : (v : ℕ) → v < 64 → value_below radio_symbol 64 (radio_symbol v) ≡ Some v
-unfolding stands
-symbol-found v h = is_some (value_below radio_symbol 64 (radio_symbol v)) v (and_parts (nat_lt (radio_symbol v) 256) _ (table-stands v h)).1
-
-pub symbol-distinct : (v w : ℕ) → v < 64 → w < 64 → radio_symbol v ≡ radio_symbol w → v ≡ w
-symbol-distinct v w hv hw e =
-    let s : Some v ≡ Some w = sym (symbol-found v hv) ∙ ap (value_below radio_symbol 64) e ∙ symbol-found w hw in
-    grind arith
 
 agree_same : (o : Option SixBit) (v : Option ℕ) → agrees o v ≡ true → option_map number_of o ≡ v
 agree_same None None e = refl

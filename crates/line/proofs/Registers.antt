@@ -10,7 +10,7 @@ use Rattle.std.specs.Int.Digits.{number_from_digits, number_from_digits_after, A
 use Rattle.arithmetic.specs.Division.{IsRemainder}
 use Rattle.line.specs.Radio.{moved_up, register_after, radio_message}
 use Rattle.arithmetic.proofs.Sums.{interchange, doubled-sum}
-use Rattle.arithmetic.proofs.Remainders.{message_from, Takes, all_fit, is-remainder}
+use Rattle.arithmetic.proofs.Remainders.{message_from, Takes, is-remainder}
 
 -- two bits that differ add up to one
 differ : (a b : ℕ) → a < 2 → b < 2 → (a ≢ b) → bit_xor a b ≡ 1
@@ -79,9 +79,6 @@ register-message c m n (b ∷ bs) u =
     ap (λ v. message_from 256 v bs) (message-more c m n b u.0)
     ∙ register-message c (m * 2 + b) (n + 1) bs u.1
     ∙ ap (λ j. bit_xor (number_from_digits_after 2 (m * 2 + b) bs * 256) (c * 2 ^ j)) count
-
-pub register-below : (bits : List ℕ) → AllBelowBase 2 bits → register_after 0xFF bits < 256
-register-below bits u = all_fit 0x1A6 256 (λ n. n < 256) moved_up takes 0xFF bits u (omega arith)
 
 pub register-remainder : (bits : List ℕ) → AllBelowBase 2 bits → IsRemainder 8 0x1A6 (radio_message bits) (register_after 0xFF bits)
 register-remainder bits u =

@@ -39,7 +39,8 @@ mod tests {
         };
         let body = Body::read(&values);
         assert_eq!(rt; Header::read(&values), header);
-        assert_eq!(rt; body.blocks[0], 0x1E22334455667788);
+        let block = body.blocks[0];
+        assert_eq!(rt; block, 0x1E22334455667788);
         assert_eq!(rt; body.filling, 1);
         assert!(rt;
             frame_values(&header, &body).as_slice()[15].get() == values.as_slice()[15].get()

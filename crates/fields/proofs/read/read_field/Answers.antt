@@ -1,4 +1,4 @@
-use Rattle.std.proofs.Common.{ℕ, ◌-◌, ◌^◌, ◌<◌, ◌∙◌, subst, arith}
+use Rattle.std.proofs.Common.{ℕ, ◌^◌, ◌<◌, ◌∙◌, subst, arith}
 use native.Mathlib.Nat.{pow-le-pow_right}
 use Rattle.fields.proofs.Places.{part-numbers, part-long}
 use Rattle.fields.proofs.read.read_field.Goals as goal

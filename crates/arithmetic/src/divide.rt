@@ -7,7 +7,10 @@ use crate::division::Division;
 
 // Takes the divisor off `x` where `x` has its degree.
 fn taken_off(degree: u32, divisor: u16, x: u16) -> u16
-    requires { (degree ≤ 8) × ((x < 2 * 2 ^ degree) × ((2 ^ degree ≤ divisor) × (divisor < 2 * 2 ^ degree))) }
+    requires small { degree ≤ 8 }
+    requires fits { x < 2 * 2 ^ degree }
+    requires leading { 2 ^ degree ≤ divisor }
+    requires whole { divisor < 2 * 2 ^ degree }
     ensures value { result ≡ reduced degree divisor x }
     ensures below { result < 2 ^ degree }
 {
@@ -16,7 +19,10 @@ fn taken_off(degree: u32, divisor: u16, x: u16) -> u16
 
 // Brings down the last bits of `value`, as many as the degree, behind `rest`.
 fn brought_down(degree: u32, divisor: u16, rest: u16, value: u8) -> u16
-    requires { (degree ≤ 8) × ((rest < 2 ^ degree) × ((2 ^ degree ≤ divisor) × (divisor < 2 * 2 ^ degree))) }
+    requires small { degree ≤ 8 }
+    requires fits { rest < 2 ^ degree }
+    requires leading { 2 ^ degree ≤ divisor }
+    requires whole { divisor < 2 * 2 ^ degree }
     ensures value { result ≡ remainder_after degree divisor rest (digits 2 degree value) }
     ensures below { result < 2 ^ degree }
 {

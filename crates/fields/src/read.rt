@@ -13,7 +13,9 @@ use line::SixBit;
 use wire::FrameValues;
 
 fn read_field(values: &[SixBit], place: usize, count: usize) -> u64
-    requires { (place + count ≤ length values.now) × ((place ≤ 48) × (count ≤ 6)) }
+    requires inside { place + count ≤ length values.now }
+    requires near { place ≤ 48 }
+    requires short { count ≤ 6 }
     ensures value { result ≡ field place count (numbers values.now) }
     ensures below { result < 64 ^ count }
 {
@@ -53,7 +55,9 @@ struct Cut {
 // Cuts the next block off: the bits left over in front of it and the eleven values that follow are 64 bits of block and
 // two bits more that are left over.
 fn cut_block(rest: u8, spare: u128, values: &[SixBit]) -> Cut
-    requires { (length values.now ≡ 11) × ((rest * 4 + 4 ≤ spare) × (spare ≤ 64)) }
+    requires long { length values.now ≡ 11 }
+    requires room { rest * 4 + 4 ≤ spare }
+    requires few { spare ≤ 64 }
     ensures whole { result.block * spare + result.rest ≡ rest * 64 ^ 11 + number_from_digits 64 (numbers values.now) }
     ensures below { result.rest < spare }
     ensures block { result.block < 2 ^ 64 }
@@ -67,7 +71,9 @@ fn cut_block(rest: u8, spare: u128, values: &[SixBit]) -> Cut
 
 // Cuts a body into its blocks.
 fn cut_body(size: usize, values: &[SixBit]) -> Body
-    requires { (1 ≤ size) × ((size ≤ 3) × (length values.now ≡ 11 * size)) }
+    requires some { 1 ≤ size }
+    requires few { size ≤ 3 }
+    requires long { length values.now ≡ 11 * size }
     ensures size { result.size ≡ size }
     ensures closed { blocks_of result ≡ closed_blocks size (number_from_digits 64 (numbers values.now)) }
     ensures filling { result.filling ≡ filling_of size (number_from_digits 64 (numbers values.now)) }

@@ -15,7 +15,8 @@ use wire::FrameValues;
 
 // Writes a number as `count` values from a place on.
 fn put_field(values: &mut [SixBit], place: usize, count: usize, number: u128)
-    requires { (place + count ≤ length values.old) × (length values.old ≤ 48) }
+    requires inside { place + count ≤ length values.old }
+    requires short { length values.old ≤ 48 }
     ensures { take (place + count) (numbers values.new) ≡ take place (numbers values.old) ++ digits 64 count number }
 {
     put_number(&mut values[place..place + count], number);
@@ -36,7 +37,9 @@ fn put_header(header: &Header, values: &mut [SixBit])
 
 // Writes a block and the bits behind it as eleven values, and tells the bits that are left over in front of them.
 fn put_block(block: u64, spare: u128, rest: u8, values: &mut [SixBit]) -> u8
-    requires { (length values.old ≡ 11) × ((rest < spare) × (spare ≤ 64)) }
+    requires long { length values.old ≡ 11 }
+    requires fits { rest < spare }
+    requires few { spare ≤ 64 }
     ensures whole { result * 64 ^ 11 + number_from_digits 64 (numbers values.new) ≡ block * spare + rest }
     ensures below { result * 4 < spare }
 {

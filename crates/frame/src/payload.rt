@@ -39,7 +39,8 @@ fn clear_payload(behind: &[u8]) -> [u8; 24]
 
 // The block of the eight bytes from a place on, high byte first.
 fn block_at(bytes: &[u8], i: usize) -> u64
-    requires { (i + 8 ≤ length bytes.now) × (i ≤ 24) }
+    requires inside { i + 8 ≤ length bytes.now }
+    requires early { i ≤ 24 }
     ensures value { result ≡ number_from_digits 256 (take 8 (drop i bytes.now)) }
     ensures bytes { AllBelowBase 256 bytes.now }
 {
@@ -57,7 +58,9 @@ fn block_at(bytes: &[u8], i: usize) -> u64
 
 // The closed blocks of a payload, at the front of room for the most, zeros behind them.
 fn close_blocks<S: Seal>(seal: &S, size: usize, payload: &[u8]) -> [u64; 3]
-    requires { (1 ≤ size) × ((size ≤ 3) × (length payload.now ≡ 8 * size)) }
+    requires some { 1 ≤ size }
+    requires few { size ≤ 3 }
+    requires long { length payload.now ≡ 8 * size }
     ensures closed { take size result ≡ closed_from (S.Seal.code seal.now) size payload.now }
     ensures blank { drop size result ≡ replicate (3 - size) 0 }
     ensures bytes { AllBelowBase 256 payload.now }
@@ -71,7 +74,8 @@ fn close_blocks<S: Seal>(seal: &S, size: usize, payload: &[u8]) -> [u64; 3]
 
 // The bits that a seal puts behind so many blocks.
 pub(crate) fn filling_for<S: Seal>(seal: &S, size: usize) -> u8
-    requires { (1 ≤ size) × (size ≤ 3) }
+    requires some { 1 ≤ size }
+    requires few { size ≤ 3 }
     ensures value { result ≡ seal_filling (S.Seal.code seal.now) size }
     ensures fits { result < 4 ^ size }
 {
@@ -80,7 +84,9 @@ pub(crate) fn filling_for<S: Seal>(seal: &S, size: usize) -> u8
 
 // The body of a frame whose payload has these bytes behind its byte 0.
 pub(crate) fn sealed_body<S: Seal>(seal: &S, size: usize, behind: &[u8]) -> Body
-    requires { (1 ≤ size) × ((size ≤ 3) × (length behind.now + 1 ≡ 8 * size)) }
+    requires some { 1 ≤ size }
+    requires few { size ≤ 3 }
+    requires long { length behind.now + 1 ≡ 8 * size }
     ensures size { result.size ≡ size }
     ensures closed { blocks_of result ≡ closed_from (S.Seal.code seal.now) size (with_check_byte behind.now) }
     ensures filling { result.filling ≡ seal_filling (S.Seal.code seal.now) size }

@@ -1,6 +1,6 @@
 ghost use Rattle.std.specs.Prelude.{◌≡◌};
 ghost use Rattle.frame.specs.Refusing.{frame_refused};
-ghost use Rattle.frame.specs.declared.fault.FrameFault.TheVariants.{Buffer as in_Buffer, Line as in-line};
+ghost use Rattle.frame.specs.declared.fault.FrameFault.TheVariants.{Buffer as in_buffer, Line as in_line};
 
 use crate::fault::FrameFault;
 use refusal::{Layer, Refusal, ShortBuffer};
@@ -33,7 +33,7 @@ impl FrameFault {
 }
 
 impl From<ShortBuffer> for FrameFault {
-    ghost from_gives = { λ e r. r ≡ in_Buffer e };
+    ghost from_gives = { λ e r. r ≡ in_buffer e };
 
     fn from(short: ShortBuffer) -> FrameFault {
         FrameFault::Buffer(short)
@@ -41,7 +41,7 @@ impl From<ShortBuffer> for FrameFault {
 }
 
 impl From<LineFault> for FrameFault {
-    ghost from_gives = { λ e r. r ≡ in-line e };
+    ghost from_gives = { λ e r. r ≡ in_line e };
 
     fn from(refused: LineFault) -> FrameFault {
         FrameFault::Line(refused)

@@ -1,5 +1,5 @@
 // A frame's bytes read as values.
-ghost use Rattle.std.specs.Prelude.{◌≡◌, ◌≤◌, true, length, take, replicate, if◌then◌else◌, Some as some, None as none};
+ghost use Rattle.std.specs.Prelude.{◌≡◌, ◌≤◌, true, length, take, replicate, if◌then◌else◌};
 ghost use Rattle.std.specs.Option.{option_map};
 ghost use Rattle.refusal.specs.Outcomes.{Outcome};
 ghost use Rattle.line.specs.Values.{numbers};
@@ -7,7 +7,6 @@ ghost use Rattle.wire.specs.Frames.{frame_length, first_no_symbol, values_of, ch
 ghost use Rattle.wire.specs.Refusing.{line_refusal};
 ghost use Rattle.wire.specs.Values.{values_in};
 ghost use Rattle.wire.specs.Calls.{Read};
-ghost use Rattle.wire.specs.declared.fault.LineFault.TheVariants.{NoSymbol as no_symbol};
 
 use crate::fault::LineFault;
 use crate::frame_values::FrameValues;
@@ -21,8 +20,9 @@ fn is_frame_length(count: usize) -> bool
 
 // Reads each symbol, up to the first byte that is none.
 fn decode<L: Line>(line: &L, frame: &[u8], values: &mut [SixBit]) -> Result<(), LineFault>
-    requires { (length values.old ≡ length frame.now) × (length frame.now ≤ 48) }
-    ensures { Outcome (option_map no_symbol (first_no_symbol (L.Line.code line.now) 0 frame.now)) (λ _. numbers values.new ≡ values_of (L.Line.code line.now) frame.now) result }
+    requires room { length values.old ≡ length frame.now }
+    requires short { length frame.now ≤ 48 }
+    ensures { Outcome (option_map LineFault.NoSymbol (first_no_symbol (L.Line.code line.now) 0 frame.now)) (λ _. numbers values.new ≡ values_of (L.Line.code line.now) frame.now) result }
 {
     for i in 0..frame.len() {
         match line.value(frame[i]) {
@@ -42,7 +42,8 @@ fn check_holds<L: Line>(line: &L, values: &[SixBit]) -> bool
 
 // Reads each symbol, and holds the check to the values behind it.
 fn read_into<L: Line>(line: &L, frame: &[u8], values: &mut [SixBit]) -> Result<(), LineFault>
-    requires { (length values.old ≡ length frame.now) × (frame_length (length frame.now) ≡ true) }
+    requires room { length values.old ≡ length frame.now }
+    requires whole { frame_length (length frame.now) ≡ true }
     ensures { Outcome (line_refusal (L.Line.code line.now) frame.now) (λ _. numbers values.new ≡ values_of (L.Line.code line.now) frame.now) result }
 {
     decode(line, frame, values)?;
@@ -75,7 +76,7 @@ impl FrameValues {
 
     // The frame whose values are the first of these, or none where no frame has so many.
     pub fn new(values: [SixBit; 48], count: usize) -> Option<FrameValues>
-        ensures { option_map values_in result ≡ (if frame_length count then some (numbers (take count values)) else none) }
+        ensures { option_map values_in result ≡ (if frame_length count then Some (numbers (take count values)) else None) }
     {
         if is_frame_length(count) {
             Some(FrameValues { values, count })

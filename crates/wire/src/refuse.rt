@@ -1,6 +1,6 @@
 ghost use Rattle.std.specs.Prelude.{◌≡◌};
 ghost use Rattle.wire.specs.Refusing.{line_refused, carry_refused};
-ghost use Rattle.wire.specs.declared.fault.CarryFault.TheVariants.{Buffer as in_Buffer, Line as in-line};
+ghost use Rattle.wire.specs.declared.fault.CarryFault.TheVariants.{Buffer as in_buffer, Line as in_line};
 
 use crate::fault::{CarryFault, LineFault};
 use refusal::{Layer, Refusal, ShortBuffer};
@@ -41,7 +41,7 @@ impl CarryFault {
 }
 
 impl From<ShortBuffer> for CarryFault {
-    ghost from_gives = { λ e r. r ≡ in_Buffer e };
+    ghost from_gives = { λ e r. r ≡ in_buffer e };
 
     fn from(short: ShortBuffer) -> CarryFault {
         CarryFault::Buffer(short)
@@ -49,7 +49,7 @@ impl From<ShortBuffer> for CarryFault {
 }
 
 impl From<LineFault> for CarryFault {
-    ghost from_gives = { λ e r. r ≡ in-line e };
+    ghost from_gives = { λ e r. r ≡ in_line e };
 
     fn from(refused: LineFault) -> CarryFault {
         CarryFault::Line(refused)

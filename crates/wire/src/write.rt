@@ -23,7 +23,8 @@ fn write_symbols<L: Line>(line: &L, values: &[SixBit], out: &mut [u8])
 
 // Writes each value's symbol, and the line's own check at its place.
 fn encode<L: Line>(line: &L, values: &[SixBit], out: &mut [u8])
-    requires { (length out.old ≡ length values.now) × (3 ≤ length values.now) }
+    requires room { length out.old ≡ length values.now }
+    requires checked { 3 ≤ length values.now }
     ensures { out.new ≡ symbols_of (L.Line.code line.now) (numbers values.now) }
 {
     write_symbols(line, values, out);

@@ -4,7 +4,7 @@ use Rattle.fields.proofs.Cuts.{cut-block, cut-rest}
 use Rattle.fields.proofs.read.cut_block.Goals as goal
 
 few : (c : goal.After-number_of) → c.number_of.result < 64 ^ 11
-few c = subst (λ (n : ℕ). c.number_of.result < 64 ^ n) c.requires.0 c.number_of.ensures.below
+few c = subst (λ (n : ℕ). c.number_of.result < 64 ^ n) c.requires.long c.number_of.ensures.below
 
 pub overflow_cast-result : goal.overflow_cast-result
 overflow_cast-result c = record { fits = cut-block c.args.rest c.args.spare c.number_of.result (omega arith) (few c) }

@@ -16,7 +16,7 @@ cut_block-cut-requires c =
     let k = c.loop-k.k in
     let few = spare-below k (omega arith) in
     let more = spare_more k in
-    (part-long c.args.values.now (11 * k) 11 (omega arith), (omega (arith, c.loop-k.invariant.below), omega arith))
+    record { long = part-long c.args.values.now (11 * k) 11 (omega arith); room = omega (arith, c.loop-k.invariant.below); few = omega arith }
 
 pub loop-k-preserved : goal.loop-k-preserved
 loop-k-preserved c =

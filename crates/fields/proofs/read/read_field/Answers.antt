@@ -4,7 +4,7 @@ use Rattle.fields.proofs.Places.{part-numbers, part-long}
 use Rattle.fields.proofs.read.read_field.Goals as goal
 
 few : (c : goal.After-number_of) → c.number_of.result < 64 ^ c.args.count
-few c = subst (λ (n : ℕ). c.number_of.result < 64 ^ n) (part-long c.args.values.now c.args.place c.args.count c.requires.0) c.number_of.ensures.below
+few c = subst (λ (n : ℕ). c.number_of.result < 64 ^ n) (part-long c.args.values.now c.args.place c.args.count c.requires.inside) c.number_of.ensures.below
 
 pub overflow_cast-result : goal.overflow_cast-result
 overflow_cast-result c =

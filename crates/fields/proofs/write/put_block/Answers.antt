@@ -15,7 +15,7 @@ returns c =
     record {
       whole =
           ap (λ x. bits / 64 ^ 11 * 64 ^ 11 + number_from_digits 64 x) c.put_number.ensures
-          ∙ ap (λ k. bits / 64 ^ 11 * 64 ^ 11 + number_from_digits 64 (digits 64 k bits)) c.requires.0
+          ∙ ap (λ k. bits / 64 ^ 11 * 64 ^ 11 + number_from_digits 64 (digits 64 k bits)) c.requires.long
           ∙ ap (λ x. bits / 64 ^ 11 * 64 ^ 11 + x) (number_digits 64 (omega arith) 11 bits)
           ∙ div-add-mod' bits (64 ^ 11);
       below = front_rest c.args.block c.args.spare c.args.rest (omega arith) (omega arith);

@@ -22,7 +22,11 @@ put_block-rest-requires c =
     let j = c.loop-k.k - 1 in
     let next : j + 1 ≡ c.loop-k.k = omega arith in
     let few = spare-below j (omega arith) in
-    (part-long c.loop-k.values (11 * j) 11 (omega arith), (subst (λ (n : ℕ). c.loop-k.rest < n) (ap (λ i. 4 ^ i) (sym next) ∙ sym c.pow.ensures) c.loop-k.invariant.below, omega arith))
+    record {
+      long = part-long c.loop-k.values (11 * j) 11 (omega arith);
+      fits = subst (λ (n : ℕ). c.loop-k.rest < n) (ap (λ i. 4 ^ i) (sym next) ∙ sym c.pow.ensures) c.loop-k.invariant.below;
+      few = omega arith;
+    }
 
 pub loop-k-preserved : goal.loop-k-preserved
 loop-k-preserved c =

@@ -1,5 +1,5 @@
--- Why the two lines are lawful. An impl names the proof of its law, and can name only what stands in specs/: nothing here
--- needs to be believed. Assumes nothing.
+-- Why the two lines are lawful. An impl names the proof of its law, and of its own crate it can name only what stands in
+-- specs/: nothing here needs to be believed. Assumes nothing.
 use Rattle.std.specs.Prelude.{◌≡◌, ℕ, zero, suc, ◌*◌, ◌/◌, ◌%◌, ◌<◌, Bool, true, false, ◌&&◌, List, [], ◌∷◌, map, Some, None, Option, ◌==◌, nat_lt, bit_xor, refl}
 use Rattle.std.proofs.Common.{ap, sym, ◌∙◌, arith}
 use Rattle.std.specs.Int.Bits.{xor_lt}

@@ -1,5 +1,5 @@
 -- Why the two seals are lawful: half rounds of XTEA are taken back one by one, the last first. An impl names the proof of
--- its law, and can name only what stands in specs/: nothing here needs to be believed. Assumes nothing.
+-- its law, and of its own crate it can name only what stands in specs/: nothing here needs to be believed. Assumes nothing.
 use Rattle.std.specs.Prelude.{◌≡◌, ℕ, zero, suc, ◌+◌, ◌*◌, ◌/◌, ◌%◌, ◌^◌, ◌<◌, List, bit_xor, slice_index}
 use Rattle.std.proofs.Math.Path.{refl, ap}
 use Rattle.std.proofs.Common.{sym, ◌∙◌, subst}

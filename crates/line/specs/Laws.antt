@@ -23,10 +23,10 @@ is : Option ℕ → ℕ → Bool
 is None v = false
 is (Some w) v = w == v
 
-is_some : (o : Option ℕ) (v : ℕ) → is o v ≡ true → o ≡ Some v
+is-Some : (o : Option ℕ) (v : ℕ) → is o v ≡ true → o ≡ Some v
 unfolding is
-is_some None v e = absurd (false≢true e)
-is_some (Some w) v e = ap (λ n. Some n) (eqb-true w v e)
+is-Some None v e = absurd (false≢true e)
+is-Some (Some w) v e = ap (λ n. Some n) (eqb-true w v e)
 
 -- a value's symbol is a byte, and is found again as the symbol of this value and of no later one
 stands : ℕ → Bool
@@ -47,7 +47,7 @@ symbol-byte v h = ltb-true (radio_symbol v) 256 (and_parts (nat_lt (radio_symbol
 
 symbol-found : (v : ℕ) → v < 64 → value_below radio_symbol 64 (radio_symbol v) ≡ Some v
 unfolding stands
-symbol-found v h = is_some (value_below radio_symbol 64 (radio_symbol v)) v (and_parts (nat_lt (radio_symbol v) 256) _ (table-stands v h)).1
+symbol-found v h = is-Some (value_below radio_symbol 64 (radio_symbol v)) v (and_parts (nat_lt (radio_symbol v) 256) _ (table-stands v h)).1
 
 symbol-distinct : (v w : ℕ) → v < 64 → w < 64 → radio_symbol v ≡ radio_symbol w → v ≡ w
 symbol-distinct v w hv hw e =

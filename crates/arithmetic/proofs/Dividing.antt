@@ -7,7 +7,6 @@ use Rattle.std.proofs.lemmas.Nat.{pow_pos}
 use Rattle.std.proofs.ByRecursion.{All-append}
 use Rattle.std.proofs.lemmas.List.{drop_all}
 use Rattle.std.specs.Int.Digits.{number_from_digits, number_from_digits_after, AllBelowBase}
-use Rattle.arithmetic.specs.declared.division.Division.{Division}
 use Rattle.arithmetic.specs.Digits.{digits, bits_of}
 use Rattle.arithmetic.specs.Division.{reduced, remainder, remainder_after, check_message, check_of, IsRemainder}
 use Rattle.arithmetic.proofs.Sums.{leading-lost}
@@ -41,8 +40,8 @@ module _ (d p : ℕ) (lp : 2 ^ d ≤ p) (hp : p < 2 * 2 ^ d) where
       subst (λ (m : ℕ). IsRemainder d p m (remainder d p bits)) (number-message 0 bits u)
       (is-remainder d p lp hp 1 (λ left b. reduced d p (2 * left + b)) takes 0 bits u (pow_pos d))
 
--- the steps of a division that goes on with one number of a list after the other
-module _ (d p : ℕ) (most : d ≤ 8) (lp : 2 ^ d ≤ p) (hp : p < 2 * 2 ^ d) where
+-- the check that a divisor gives
+module _ (d p : ℕ) (lp : 2 ^ d ≤ p) (hp : p < 2 * 2 ^ d) where
   pub message-bits : (ns : List ℕ) → AllBelowBase 2 (check_message d ns)
   message-bits ns = All-append (λ b. b < 2) (bits_of d ns) (replicate d 0) (bits_of-under d ns) (zero_bits d)
     where
@@ -56,13 +55,8 @@ module _ (d p : ℕ) (most : d ≤ 8) (lp : 2 ^ d ≤ p) (hp : p < 2 * 2 ^ d) wh
   pub check-remainder : (ns : List ℕ) (r : ℕ) → r ≡ check_of d p ns → IsRemainder d p (number_from_digits 2 (check_message d ns)) r
   check-remainder ns r e = subst (λ (n : ℕ). IsRemainder d p (number_from_digits 2 (check_message d ns)) n) (sym e) (long-division d p lp hp (check_message d ns) (message-bits ns))
 
-  -- what a division by this divisor keeps
-  pub division-kept : {degree divisor rest : ℕ} → degree ≡ d → divisor ≡ p → rest < 2 ^ d → record { small : degree ≤ 8; leading : 2 ^ degree ≤ divisor; whole : divisor < 2 * 2 ^ degree; below : rest < 2 ^ degree }
-  division-kept ed ep h = record { small = rw ed most; leading = rw (ed, ep) lp; whole = rw (ed, ep) hp; below = rw ed h }
-
-  pub division-rest : (division : Division) → division.degree ≡ d → division.rest < 2 ^ d
-  division-rest division e = subst (λ (n : ℕ). division.rest < 2 ^ n) e division.below
-
+-- the steps of a division that goes on with one number of a list after the other
+module _ (d p : ℕ) where
   -- one more number brought down
   pub division-more : (ns : List ℕ) (n i rest rest' : ℕ) {degree divisor : ℕ} → i < length ns → n ≡ get_or ns i 0 → degree ≡ d → divisor ≡ p
       → rest' ≡ remainder_after degree divisor rest (digits 2 degree n)

@@ -1,7 +1,7 @@
 ghost use Rattle.std.specs.Prelude.{◌*◌, ◌^◌, ◌<◌, ◌≤◌};
 
 // A division of bits by a polynomial over two elements, under way: bit k of the divisor is the factor of x^k.
-#[derive(Clone, Copy)]
+#[derive(Clone, Copy, PartialEq, Eq, Debug)]
 pub struct Division {
     pub degree: u32,
     pub divisor: u16,

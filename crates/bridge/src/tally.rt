@@ -1,9 +1,10 @@
 // How many lines were carried, and how many refused.
-ghost use Rattle.std.specs.Prelude.{◌≡◌, ◌+◌, ◌-◌, ◌^◌, min, ◌++◌, if◌then◌else◌, Some, codes, decimal};
+ghost use Rattle.std.specs.Prelude.{◌≡◌, ◌+◌, ◌-◌, ◌^◌, min, ◌++◌, if◌then◌else◌, is_ok, Some, codes, decimal};
 
+use crate::answer::Answer;
 use std::fmt;
 
-#[derive(Clone, Copy)]
+#[derive(Clone, Copy, Default)]
 pub struct Tally {
     pub carried: u64,
     pub refused: u64,
@@ -11,20 +12,19 @@ pub struct Tally {
 
 impl Tally {
     // One line more; a count stays at the largest number once it is there.
-    pub fn count(self, carried: bool) -> Tally
-        ensures carried { result.carried ≡ min (self.carried + (if carried then 1 else 0)) (2 ^ 64 - 1) }
-        ensures refused { result.refused ≡ min (self.refused + (if carried then 0 else 1)) (2 ^ 64 - 1) }
+    pub fn count(self, answer: &Answer) -> Tally
+        ensures carried { result.carried ≡ min (self.carried + (if is_ok answer.now.frame then 1 else 0)) (2 ^ 64 - 1) }
+        ensures refused { result.refused ≡ min (self.refused + (if is_ok answer.now.frame then 0 else 1)) (2 ^ 64 - 1) }
     {
-        if carried {
-            Tally {
+        match answer.frame {
+            Ok(_) => Tally {
                 carried: self.carried.saturating_add(1),
-                refused: self.refused,
-            }
-        } else {
-            Tally {
-                carried: self.carried,
+                ..self
+            },
+            Err(_) => Tally {
                 refused: self.refused.saturating_add(1),
-            }
+                ..self
+            },
         }
     }
 }
@@ -33,8 +33,7 @@ impl fmt::Display for Tally {
     ghost output = { λ t. Some (decimal t.carried ++ (codes " carried, " ++ (decimal t.refused ++ codes " refused"))) };
 
     fn fmt<W: fmt::Write>(&self, f: &mut fmt::Formatter<W>) -> fmt::Result {
-        let carried = self.carried;
-        let refused = self.refused;
+        let Tally { carried, refused } = *self;
         write!(f, "{carried} carried, {refused} refused")
     }
 }

@@ -1,4 +1,5 @@
 pub mod Places
+pub mod Groups
 pub mod Cuts
 pub mod Made
 pub mod Layouts

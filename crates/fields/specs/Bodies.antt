@@ -17,4 +17,8 @@ filling_of n body = body % 4 ^ n
 
 -- the blocks that a body has
 abbrev pub blocks_of : Body → List ℕ
-blocks_of body = take body.size body.blocks
+blocks_of body = take body.size.count body.blocks
+
+-- the number that a body is
+abbrev pub number_in : Body → ℕ
+number_in body = body_number body.size.count (blocks_of body) body.filling

@@ -1,6 +1,6 @@
 // The types of frames.
 ghost use Rattle.std.specs.Prelude.{◌≡◌};
-ghost use Rattle.fields.specs.Types.{type_of, type_number};
+ghost use Rattle.fields.specs.Types.{ReadsType, type_number};
 
 #[derive(Clone, Copy, PartialEq, Eq, Debug)]
 pub enum FrameType {
@@ -9,23 +9,30 @@ pub enum FrameType {
     Nack,
 }
 
-impl FrameType {
-    // The type that a number stands for, or none where it is unknown.
-    pub fn new(number: u8) -> Option<FrameType>
-        ensures { result ≡ type_of number }
-    {
+// A number that stands for no type: an error of this conversion alone.
+#[derive(Clone, Copy, PartialEq, Eq, Debug)]
+pub struct UnknownType(pub u8);
+
+impl TryFrom<u8> for FrameType {
+    type Error = UnknownType;
+
+    ghost try_from_gives = { ReadsType };
+
+    fn try_from(number: u8) -> Result<Self, UnknownType> {
         match number {
-            1 => Some(FrameType::Data),
-            2 => Some(FrameType::Ack),
-            3 => Some(FrameType::Nack),
-            _ => None,
+            1 => Ok(FrameType::Data),
+            2 => Ok(FrameType::Ack),
+            3 => Ok(FrameType::Nack),
+            _ => Err(UnknownType(number)),
         }
     }
+}
 
-    pub fn number(self) -> u8
-        ensures { result ≡ type_number self }
-    {
-        match self {
+impl From<FrameType> for u8 {
+    ghost from_gives = { λ frame_type number. number ≡ type_number frame_type };
+
+    fn from(frame_type: FrameType) -> u8 {
+        match frame_type {
             FrameType::Data => 1,
             FrameType::Ack => 2,
             FrameType::Nack => 3,

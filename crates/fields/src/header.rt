@@ -1,6 +1,7 @@
 // What a frame says in front of its body.
 
-// The numbers of a header, as they stand in a frame or are to stand in one. None is held to the bits that it has there.
+// The numbers of a header, as they stand in a frame or are to stand in one. None is held to the bits that it has there, and
+// the type and the size may be ones that are to be refused: so they are numbers here, and not a `FrameType` and a `Size`.
 #[derive(Clone, Copy, PartialEq, Eq, Debug)]
 pub struct Header {
     // Who sends this copy of the frame.

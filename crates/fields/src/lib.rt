@@ -2,16 +2,20 @@
 #![tactic(auto)]
 
 mod body;
+mod closed;
+mod display;
 mod frame_type;
 mod header;
 mod numbers;
 mod read;
+mod size;
 mod write;
 
 pub use body::Body;
-pub use frame_type::FrameType;
+pub use closed::ClosedFrame;
+pub use frame_type::{FrameType, UnknownType};
 pub use header::Header;
-pub use write::frame_values;
+pub use size::{Size, UnknownSize};
 
 #[cfg(test)]
 mod tests {
@@ -25,10 +29,7 @@ mod tests {
     fn worked_packet(rt: HostRuntime) -> Result<(), Fail> {
         let packet =
             b"\xB4\xBA\x95\xB4\xB5\xC5\x6A\x3C\xB5\x39\x39\xB4\xBA\xB5\xBC\xB2\x53\xC4\x6A\x3C\xB9\x39\x56\xA9\xD4\x5C";
-        let values = match FrameValues::read(&Radio::new(), packet) {
-            Ok(values) => values,
-            Err(_) => return Err(Fail::new("refused")),
-        };
+        let values = FrameValues::read(&Radio::new(), packet)?;
         let header = Header {
             repeater: 3,
             destination: 4,
@@ -37,14 +38,11 @@ mod tests {
             frame_type: 4,
             size: 1,
         };
-        let body = Body::read(&values);
-        assert_eq!(rt; Header::read(&values), header);
-        let block = body.blocks[0];
-        assert_eq!(rt; block, 0x1E22334455667788);
-        assert_eq!(rt; body.filling, 1);
-        assert!(rt;
-            frame_values(&header, &body).as_slice()[15].get() == values.as_slice()[15].get()
-        );
+        let frame = ClosedFrame::read(&values);
+        assert_eq!(rt; frame.header, header);
+        assert_eq!(rt; frame.body.blocks(), [0x1E22334455667788].as_slice());
+        assert_eq!(rt; frame.body.filling, 1);
+        assert!(rt; frame.values().as_slice()[15] == values.as_slice()[15]);
         Ok(())
     }
 }

@@ -1,47 +1,33 @@
 // A frame's fields read from its values.
 ghost use Rattle.std.specs.Prelude.{◌≡◌, ◌+◌, ◌*◌, ◌^◌, ◌<◌, ◌≤◌, length};
 ghost use Rattle.std.specs.Int.Digits.{number_from_digits};
+ghost use Rattle.std.specs.List.{flat_map};
 ghost use Rattle.line.specs.Values.{numbers};
 ghost use Rattle.wire.specs.Values.{values_in};
-ghost use Rattle.fields.specs.Layout.{field, header_of, body_in, blocks_in};
+ghost use Rattle.fields.specs.Layout.{header_of, body_in, blocks_in};
 ghost use Rattle.fields.specs.Bodies.{closed_blocks, filling_of, blocks_of};
 
 use crate::body::Body;
 use crate::header::Header;
 use crate::numbers::{ELEVEN_VALUES, number_of};
+use crate::size::Size;
 use line::SixBit;
 use wire::FrameValues;
-
-fn read_field(values: &[SixBit], place: usize, count: usize) -> u64
-    requires inside { place + count ≤ length values.now }
-    requires near { place ≤ 48 }
-    requires short { count ≤ 6 }
-    ensures value { result ≡ field place count (numbers values.now) }
-    ensures below { result < 64 ^ count }
-{
-    number_of(&values[place..place + count]) as u64
-}
-
-fn read_header(values: &[SixBit]) -> Header
-    requires { 15 ≤ length values.now }
-    ensures { result ≡ header_of (numbers values.now) }
-{
-    Header {
-        repeater: read_field(values, 0, 2) as u16,
-        destination: read_field(values, 3, 2) as u16,
-        network: read_field(values, 5, 6),
-        source: read_field(values, 11, 2) as u16,
-        frame_type: read_field(values, 13, 1) as u8,
-        size: read_field(values, 14, 1) as u8,
-    }
-}
 
 impl Header {
     // The header of a frame.
     pub fn read(frame: &FrameValues) -> Header
         ensures { result ≡ header_of (values_in frame.now) }
     {
-        read_header(frame.as_slice())
+        let values = frame.as_slice();
+        Header {
+            repeater: number_of(&values[0..2]) as u16,
+            destination: number_of(&values[3..5]) as u16,
+            network: number_of(&values[5..11]) as u64,
+            source: number_of(&values[11..13]) as u16,
+            frame_type: number_of(&values[13..14]) as u8,
+            size: number_of(&values[14..15]) as u8,
+        }
     }
 }
 
@@ -54,15 +40,14 @@ struct Cut {
 
 // Cuts the next block off: the bits left over in front of it and the eleven values that follow are 64 bits of block and
 // two bits more that are left over.
-fn cut_block(rest: u8, spare: u128, values: &[SixBit]) -> Cut
-    requires long { length values.now ≡ 11 }
+fn cut_block(rest: u8, spare: u128, group: [SixBit; 11]) -> Cut
     requires room { rest * 4 + 4 ≤ spare }
     requires few { spare ≤ 64 }
-    ensures whole { result.block * spare + result.rest ≡ rest * 64 ^ 11 + number_from_digits 64 (numbers values.now) }
+    ensures whole { result.block * spare + result.rest ≡ rest * 64 ^ 11 + number_from_digits 64 (numbers group) }
     ensures below { result.rest < spare }
     ensures block { result.block < 2 ^ 64 }
 {
-    let bits = rest as u128 * ELEVEN_VALUES + number_of(values);
+    let bits = u128::from(rest) * ELEVEN_VALUES + number_of(&group);
     Cut {
         block: (bits / spare) as u64,
         rest: (bits % spare) as u8,
@@ -70,18 +55,19 @@ fn cut_block(rest: u8, spare: u128, values: &[SixBit]) -> Cut
 }
 
 // Cuts a body into its blocks.
-fn cut_body(size: usize, values: &[SixBit]) -> Body
-    requires some { 1 ≤ size }
-    requires few { size ≤ 3 }
-    requires long { length values.now ≡ 11 * size }
+fn cut_body(size: Size, groups: &[[SixBit; 11]]) -> Body
+    requires { length groups.now ≡ size.count }
     ensures size { result.size ≡ size }
-    ensures closed { blocks_of result ≡ closed_blocks size (number_from_digits 64 (numbers values.now)) }
-    ensures filling { result.filling ≡ filling_of size (number_from_digits 64 (numbers values.now)) }
+    ensures closed { blocks_of result ≡ closed_blocks size.count (number_from_digits 64 (flat_map numbers groups.now)) }
+    ensures filling { result.filling ≡ filling_of size.count (number_from_digits 64 (flat_map numbers groups.now)) }
 {
     let mut closed = [0u64; 3];
     let mut rest = 0u8;
-    for k in 0..size {
-        let cut = cut_block(rest, 4u128.pow(k as u32 + 1), &values[11 * k..11 * k + 11]);
+    let mut spare = 1u128;
+    for (k, group) in groups.iter().copied().enumerate() {
+        spare *= 4;
+        let cut = cut_block(rest, spare, group);
+        // By index: tried with `iter_mut` and `zip`, after which a proof knows nothing of what was written.
         closed[k] = cut.block;
         rest = cut.rest;
     }
@@ -92,24 +78,28 @@ fn cut_body(size: usize, values: &[SixBit]) -> Body
     }
 }
 
-// The values of a frame's body.
-fn body_values(frame: &FrameValues) -> &[SixBit]
-    ensures values { numbers result.now ≡ body_in (values_in frame.now) }
-    ensures long { length result.now ≡ 11 * blocks_in (values_in frame.now) }
-    ensures some { 1 ≤ blocks_in (values_in frame.now) }
-    ensures few { blocks_in (values_in frame.now) ≤ 3 }
+// The values of a frame's body, eleven for each block.
+fn body_groups(frame: &FrameValues) -> &[[SixBit; 11]]
+    ensures values { flat_map numbers result.now ≡ body_in (values_in frame.now) }
+    ensures count { length result.now ≡ blocks_in (values_in frame.now) }
+    ensures some { 1 ≤ length result.now }
+    ensures few { length result.now ≤ 3 }
 {
-    &frame.as_slice()[15..]
+    let (groups, _) = frame.as_slice()[15..].as_chunks::<11>();
+    groups
 }
 
 impl Body {
     // The body of a frame.
     pub fn read(frame: &FrameValues) -> Body
-        ensures size { result.size ≡ blocks_in (values_in frame.now) }
-        ensures closed { blocks_of result ≡ closed_blocks result.size (number_from_digits 64 (body_in (values_in frame.now))) }
-        ensures filling { result.filling ≡ filling_of result.size (number_from_digits 64 (body_in (values_in frame.now))) }
+        ensures size { result.size.count ≡ blocks_in (values_in frame.now) }
+        ensures closed { blocks_of result ≡ closed_blocks result.size.count (number_from_digits 64 (body_in (values_in frame.now))) }
+        ensures filling { result.filling ≡ filling_of result.size.count (number_from_digits 64 (body_in (values_in frame.now))) }
     {
-        let values = body_values(frame);
-        cut_body(values.len() / 11, values)
+        let groups = body_groups(frame);
+        let size = Size {
+            count: groups.len(),
+        };
+        cut_body(size, groups)
     }
 }

@@ -1,13 +1,13 @@
 -- What a frame's bytes say, and which bytes say it, on a line and with a seal. Assumes nothing.
-use Rattle.std.specs.Prelude.{◌≡◌, ℕ, List}
+use Rattle.std.specs.Prelude.{ℕ, List}
 use Rattle.std.specs.Int.Digits.{number_from_digits}
 use Rattle.line.specs.Code.{LineCode}
 use Rattle.wire.specs.Frames.{values_of, symbols_of}
 use Rattle.seal.specs.Code.{SealCode}
 use Rattle.fields.specs.declared.header.Header.{Header}
-use Rattle.fields.specs.declared.body.Body.{Body}
 use Rattle.fields.specs.Layout.{header_of, body_in, blocks_in, frame_of}
-use Rattle.fields.specs.Bodies.{body_number, closed_blocks, blocks_of}
+use Rattle.fields.specs.Bodies.{body_number, closed_blocks}
+use Rattle.frame.specs.declared.line_and_seal.Wire.{Wire as LineAndSeal}
 use Rattle.frame.specs.Payloads.{closed_from, opened_from, seal_filling}
 
 -- a line's and a seal's meaning
@@ -18,6 +18,10 @@ pub record Wire : Type 0 where
 abbrev pub wire_of : LineCode → SealCode → Wire
 wire_of line seal = record { line = line; seal = seal }
 
+-- what a line and a seal that go together mean, each by its own code
+abbrev pub wire_over : {L S : Type 0} → (L → LineCode) → (S → SealCode) → LineAndSeal L S → Wire
+wire_over line seal pair = wire_of (line pair.line.now) (seal pair.seal.now)
+
 -- a header and the whole clear payload, byte 0 included
 pub record Fields : Type 0 where
   pub header : Header
@@ -26,12 +30,6 @@ pub record Fields : Type 0 where
 -- the clear payload that values carry, of as many blocks as their number tells
 abbrev pub payload_of : SealCode → List ℕ → List ℕ
 payload_of seal values = opened_from seal (blocks_in values) (closed_blocks (blocks_in values) (number_from_digits 64 (body_in values)))
-
--- The header and the still closed body that values carry.
-pub record IsClosed (values : List ℕ) (header : Header) (body : Body) : Type 0 where
-  pub front : header ≡ header_of values
-  pub size : body.size ≡ blocks_in values
-  pub blocks : blocks_of body ≡ closed_blocks (blocks_in values) (number_from_digits 64 (body_in values))
 
 -- what a run of bytes says
 abbrev pub fields_of : Wire → List ℕ → Fields

@@ -1,12 +1,14 @@
 // Building a frame.
-ghost use Rattle.std.specs.Prelude.{◌≡◌};
-ghost use Rattle.frame.specs.Frames.{wire_of};
+ghost use Rattle.std.specs.Prelude.{◌≡◌, is_some, IfSome};
+ghost use Rattle.refusal.specs.Outcomes.{Outcome};
+ghost use Rattle.frame.specs.Frames.{wire_over};
 ghost use Rattle.frame.specs.Refusing.{buildable, header_fits, build_refusal};
 ghost use Rattle.frame.specs.Calls.{Built, OpensAgain, BuiltAlone};
 
 use crate::fault::FrameFault;
+use crate::line_and_seal::Wire;
 use crate::payload::sealed_body;
-use fields::{FrameType, Header, frame_values};
+use fields::{ClosedFrame, FrameType, Header, Size};
 use line::Line;
 use refusal::ShortBuffer;
 use seal::Seal;
@@ -17,12 +19,14 @@ const MOST_DID: u16 = 0xFFF;
 
 const MOST_NETWORK: u64 = 0xF_FFFF_FFFF;
 
-fn is_buildable(header: &Header, count: usize) -> bool
-    ensures { result ≡ buildable header.now count }
+// The size of a frame with this header and so many bytes behind byte 0, if its type and its size are right.
+fn buildable_size(header: &Header, count: usize) -> Option<Size>
+    ensures some { is_some result ≡ buildable header.now count }
+    ensures size { IfSome result (λ size. size.count ≡ header.now.size) }
 {
-    FrameType::new(header.frame_type).is_some()
-        && (1..=3).contains(&header.size)
-        && count as u128 + 1 == 8 * header.size as u128
+    let size = Size::try_from(header.size).ok()?;
+    let known = FrameType::try_from(header.frame_type).is_ok();
+    (known && count == 8 * size.count - 1).then_some(size)
 }
 
 fn header_fits(header: &Header) -> bool
@@ -34,37 +38,33 @@ fn header_fits(header: &Header) -> bool
         && header.source <= MOST_DID
 }
 
-// What stands against a frame with this header and so many bytes behind byte 0, the lowest number first.
-fn build_refusal(room: usize, header: &Header, count: usize) -> Option<FrameFault>
-    ensures { result ≡ build_refusal room header.now count }
+// The size of the frame that is built, or what stands against building it, the lowest number first.
+fn size_to_build(room: usize, header: &Header, count: usize) -> Result<Size, FrameFault>
+    ensures { Outcome (build_refusal room header.now count) (λ size. size.count ≡ header.now.size) result }
 {
     if room < FRAME_ROOM {
-        Some(FrameFault::Buffer(ShortBuffer))
-    } else if !is_buildable(header, count) {
-        Some(FrameFault::TypeOrSize)
-    } else if !header_fits(header) {
-        Some(FrameFault::OutOfRange)
-    } else {
-        None
+        return Err(FrameFault::Buffer(ShortBuffer));
     }
+    let size = buildable_size(header, count).ok_or(FrameFault::TypeOrSize)?;
+    if !header_fits(header) {
+        return Err(FrameFault::OutOfRange);
+    }
+    Ok(size)
 }
 
-// Builds the frame of a header and of a clear payload, which is handed in without its byte 0, at the front of a buffer,
-// and tells how many bytes it has. A refusal writes nothing.
-pub fn build<L: Line, S: Seal>(
-    line: &L,
-    seal: &S,
-    header: &Header,
-    behind: &[u8],
-    out: &mut [u8],
-) -> Result<usize, FrameFault>
-    ensures built { Built (wire_of (L.Line.code line.now) (S.Seal.code seal.now)) header.now behind.now out.old out.new result }
-    ensures opens { OpensAgain (wire_of (L.Line.code line.now) (S.Seal.code seal.now)) header.now behind.now out.new result }
-    ensures alone { BuiltAlone (wire_of (L.Line.code line.now) (S.Seal.code seal.now)) header.now behind.now out.new result }
-{
-    if let Some(fault) = build_refusal(out.len(), header, behind.len()) {
-        return Err(fault);
+impl<L: Line, S: Seal> Wire<'_, L, S> {
+    // Builds the frame of a header and of a clear payload, which is handed in without its byte 0, at the front of a buffer,
+    // and tells how many bytes it has. A refusal writes nothing.
+    pub fn build(self, header: &Header, behind: &[u8], out: &mut [u8]) -> Result<usize, FrameFault>
+        ensures built { Built (wire_over L.code S.code self.entry) header.now behind.now out.old out.new result }
+        ensures opens { OpensAgain (wire_over L.code S.code self.entry) header.now behind.now out.new result }
+        ensures alone { BuiltAlone (wire_over L.code S.code self.entry) header.now behind.now out.new result }
+    {
+        let size = size_to_build(out.len(), header, behind.len())?;
+        let closed = ClosedFrame {
+            header: *header,
+            body: sealed_body(self.seal, size, behind),
+        };
+        Ok(closed.values().write(self.line, out)?)
     }
-    let body = sealed_body(seal, header.size as usize, behind);
-    Ok(frame_values(header, &body).write(line, out)?)
 }

@@ -1,16 +1,20 @@
 // Frames opened and built: a header and a clear payload on any line, with any seal.
 #![tactic(auto)]
 
+mod address;
 mod building;
+mod display;
 mod fault;
+mod line_and_seal;
 mod opening;
 mod payload;
 mod refuse;
 mod working;
 
-pub use building::build;
+pub use address::Address;
 pub use fault::FrameFault;
-pub use opening::open;
+pub use line_and_seal::Wire;
+pub use opening::WORKING_ROOM;
 pub use payload::check_byte;
 pub use working::WorkingBytes;
 
@@ -19,7 +23,7 @@ mod tests {
     use super::*;
     use fields::Header;
     use line::{Cable, Radio};
-    use refusal::Layer;
+    use refusal::{Layer, Refusal};
     use seal::{Plain, Xtea};
     use std::test::Fail;
 
@@ -30,6 +34,17 @@ mod tests {
         source: 1,
         frame_type: 1,
         size: 1,
+    };
+
+    // The address of that header's frames.
+    const ADDRESS: Address = Address {
+        network: 1,
+        destination: 2,
+    };
+
+    const PLAIN_CABLE: Wire<'static, Cable, Plain> = Wire {
+        line: &Cable,
+        seal: &Plain,
     };
 
     #[test]
@@ -43,7 +58,7 @@ mod tests {
         let frame = b"01>020000010111Y00E0@80<00";
         let payload = b"\xA4\x00\x15\x01\x02\x00\x30\x00";
         let mut work = [0xEE; 26];
-        assert_eq!(rt; open(&Cable, &Plain, 1, 2, frame, &mut work), Ok(HEADER));
+        assert_eq!(rt; PLAIN_CABLE.open(ADDRESS, frame, &mut work), Ok(HEADER));
         assert!(rt; work[0..8] == payload[0..8]);
         assert!(rt; work[8..24] == [0; 16][0..16]);
         assert!(rt; work[24..26] == [0xEE; 2][0..2]);
@@ -53,19 +68,23 @@ mod tests {
     #[test]
     fn refused(rt: HostRuntime) -> Result<(), Fail> {
         let frame = b"01>020000010111Y00E0@80<00";
+        let elsewhere = Address {
+            network: 3,
+            destination: 3,
+        };
         let mut work = [0xEE; 26];
         let mut short = [0xEE; 23];
-        let Err(fault) = open(&Cable, &Plain, 3, 3, frame, &mut work) else {
+        let Err(fault) = PLAIN_CABLE.open(elsewhere, frame, &mut work) else {
             return Err(Fail::new("opened"));
         };
-        assert_eq!(rt; fault.refusal().number, 5);
-        assert_eq!(rt; fault.refusal().layer, Layer::Frame);
+        assert_eq!(rt; Refusal::from(fault).number, 5);
+        assert_eq!(rt; Refusal::from(fault).layer, Layer::Frame);
         assert!(rt; work[0..24] == [0; 24][0..24]);
         assert!(rt; work[24..26] == [0xEE; 2][0..2]);
-        let Err(first) = open(&Cable, &Plain, 3, 3, b"", &mut short) else {
+        let Err(first) = PLAIN_CABLE.open(elsewhere, b"", &mut short) else {
             return Err(Fail::new("opened"));
         };
-        assert_eq!(rt; first.refusal().number, 1);
+        assert_eq!(rt; Refusal::from(first).number, 1);
         assert!(rt; short == [0xEE; 23]);
         Ok(())
     }
@@ -76,17 +95,18 @@ mod tests {
         let frame = b"01>020000010111Y00E0@80<00";
         let behind = b"\x00\x15\x01\x02\x00\x30\x00";
         let mut out = [0xEE; 50];
-        assert_eq!(rt; build(&Cable, &Plain, &HEADER, behind, &mut out), Ok(26));
+        assert_eq!(rt; PLAIN_CABLE.build(&HEADER, behind, &mut out), Ok(26));
         assert!(rt; out[0..26] == frame[0..26]);
         assert!(rt; out[26..50] == [0xEE; 24][0..24]);
         let radio = Radio::new();
         let seal = Xtea::new(&[0x33; 16]);
-        assert_eq!(rt; build(&radio, &seal, &HEADER, behind, &mut out), Ok(26));
+        let wire = Wire {
+            line: &radio,
+            seal: &seal,
+        };
+        assert_eq!(rt; wire.build(&HEADER, behind, &mut out), Ok(26));
         let mut work = [0xEE; 24];
-        assert_eq!(rt;
-            open(&radio, &seal, 1, 2, &out[0..26], &mut work),
-            Ok(HEADER)
-        );
+        assert_eq!(rt; wire.open(ADDRESS, &out[0..26], &mut work), Ok(HEADER));
         assert!(rt; work[1..8] == behind[0..7]);
     }
 }

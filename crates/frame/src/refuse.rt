@@ -6,32 +6,28 @@ use crate::fault::FrameFault;
 use refusal::{Layer, Refusal, ShortBuffer};
 use wire::LineFault;
 
-fn without_place(number: u8, layer: Layer) -> Refusal
-    ensures { result ≡ record { number = number; layer = layer; place = 0 } }
-{
-    Refusal {
-        number,
-        layer,
-        place: 0,
-    }
-}
+impl From<FrameFault> for Refusal {
+    ghost from_gives = { λ fault refusal. refusal ≡ frame_refused fault };
 
-impl FrameFault {
-    pub fn refusal(&self) -> Refusal
-        ensures { result ≡ frame_refused self.now }
-    {
-        match self {
-            FrameFault::Buffer(fault) => fault.refusal(),
-            FrameFault::Line(fault) => fault.refusal(),
-            FrameFault::Network => without_place(5, Layer::Frame),
-            FrameFault::Destination => without_place(6, Layer::Frame),
-            FrameFault::TypeOrSize => without_place(7, Layer::Frame),
-            FrameFault::Technique => without_place(8, Layer::Frame),
-            FrameFault::OutOfRange => without_place(11, Layer::Body),
+    fn from(fault: FrameFault) -> Refusal {
+        let (number, layer) = match fault {
+            FrameFault::Buffer(inner) => return Refusal::from(inner),
+            FrameFault::Line(inner) => return Refusal::from(inner),
+            FrameFault::Network => (5, Layer::Frame),
+            FrameFault::Destination => (6, Layer::Frame),
+            FrameFault::TypeOrSize => (7, Layer::Frame),
+            FrameFault::Technique => (8, Layer::Frame),
+            FrameFault::OutOfRange => (11, Layer::Body),
+        };
+        Refusal {
+            number,
+            layer,
+            place: 0,
         }
     }
 }
 
+// By hand, this and the next: what a derive writes has no contract, and those of the callers name the fault that `?` makes.
 impl From<ShortBuffer> for FrameFault {
     ghost from_gives = { λ e r. r ≡ in_buffer e };
 

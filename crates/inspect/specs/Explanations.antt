@@ -2,28 +2,23 @@
 use Rattle.std.specs.Prelude.{ℕ, ◌+◌, ◌*◌, ◌/◌, ◌%◌, Bool, true, false, List, ◌∷◌, ◌++◌, drop, Some, None, codes, Option, ◌==◌, slice_index}
 use Rattle.std.specs.List.{flat_map}
 use Rattle.text.specs.Hexadecimal.{hex}
-use Rattle.refusal.specs.declared.Layer.{Layer}
-use Rattle.refusal.specs.declared.Layer.TheVariants.{Call, Line as line-layer, Frame as frame-layer, Body as body-layer}
 use Rattle.refusal.specs.Refusals.{text_of}
+use Rattle.refusal.specs.Words.{layer_name}
 use Rattle.line.specs.Cable.{cable}
-use Rattle.wire.specs.declared.fault.LineFault.{LineFault}
-use Rattle.wire.specs.declared.fault.LineFault.TheVariants.{Length, NoSymbol, Check}
 use Rattle.seal.specs.Plain.{plain}
 use Rattle.fields.specs.declared.frame_type.FrameType.{FrameType}
-use Rattle.fields.specs.declared.frame_type.FrameType.TheVariants.{Data, Ack, Nack}
 use Rattle.fields.specs.declared.header.Header.{Header}
 use Rattle.fields.specs.Types.{type_of}
+use Rattle.fields.specs.Words.{frame_type_name}
 use Rattle.frame.specs.declared.fault.FrameFault.{FrameFault}
-use Rattle.frame.specs.declared.fault.FrameFault.TheVariants.{Buffer, Line, Network, Destination, TypeOrSize, Technique, OutOfRange}
 use Rattle.frame.specs.Payloads.{check_byte}
 use Rattle.frame.specs.Frames.{Wire, wire_of, Fields, fields_of}
 use Rattle.frame.specs.Refusing.{open_refusal, frame_refused}
+use Rattle.frame.specs.Words.{words}
 
 abbrev pub type_name : Option FrameType → List ℕ
 type_name None = codes "unknown"
-type_name (Some Data) = codes "data"
-type_name (Some Ack) = codes "ACK"
-type_name (Some Nack) = codes "NACK"
+type_name (Some frame_type) = frame_type_name frame_type
 
 -- who sends what to whom
 abbrev pub header_line : Header → List ℕ
@@ -68,27 +63,6 @@ check_line payload = codes "  byte 0 is 0x" ++ hex 2 (slice_index payload 0) ++ 
 
 abbrev pub explained : Fields → List ℕ
 explained fields = header_line fields.header ++ content_line fields.payload ++ check_line fields.payload
-
-abbrev pub layer_name : Layer → List ℕ
-layer_name Call = codes "Call"
-layer_name line-layer = codes "Line"
-layer_name frame-layer = codes "Frame"
-layer_name body-layer = codes "Body"
-
-abbrev pub line_words : LineFault → List ℕ
-line_words Length = codes "the frame does not have 26, 37 or 48 bytes"
-line_words (NoSymbol place) = codes "a byte is no symbol"
-line_words Check = codes "the check differs"
-
--- what is wrong, in words
-abbrev pub words : FrameFault → List ℕ
-words (Buffer fault) = codes "a buffer is too short"
-words (Line fault) = line_words fault
-words Network = codes "the network ID is another"
-words Destination = codes "the destination is another"
-words TypeOrSize = codes "the type is unknown, or the size is not that of the length"
-words Technique = codes "the technique is another, or a filling bit is set"
-words OutOfRange = codes "a header field is out of range"
 
 abbrev pub refused_line : FrameFault → List ℕ
 refused_line fault = text_of (frame_refused fault) ++ codes ", " ++ layer_name (frame_refused fault).layer ++ codes ": " ++ words fault ++ codes "\n"

@@ -1,2 +1,3 @@
 pub mod Explanations
 pub mod Expectations
+pub mod Printing

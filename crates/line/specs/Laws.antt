@@ -16,7 +16,7 @@ pub cable-lawful : Lawful cable
 cable-lawful = record {
   byte = λ v h. omega arith;
   distinct = λ v w hv hw e. omega arith;
-  six_bits = λ vs h. check-below 6 0x43 (omega arith) (omega arith) (omega arith) vs;
+  six_bits = λ vs h. check-below 6 0x43 (omega arith) (omega arith) vs;
 }
 
 is : Option ℕ → ℕ → Bool

@@ -1,4 +1,5 @@
 pub mod Values
+pub mod Conversions
 pub mod Code
 pub mod Cable
 pub mod Radio

@@ -11,7 +11,7 @@ use crate::six_bit::SixBit;
 use arithmetic::Division;
 
 // Symbols are the 64 bytes from 0x30 on, and the check is a remainder.
-#[derive(Clone, Copy)]
+#[derive(Clone, Copy, PartialEq, Eq, Debug, Default)]
 pub struct Cable;
 
 impl Line for Cable {
@@ -36,16 +36,13 @@ impl Line for Cable {
         ensures value { number_of result ≡ cable.check (numbers values.now) }
         ensures remainder { IsRemainder 6 0x43 (number_from_digits 2 (check_message 6 (numbers values.now))) (number_of result) }
     {
-        let mut division = Division {
+        let division = Division {
             degree: 6,
             divisor: 0x43,
             rest: 0,
         };
-        for value in values {
-            division = division.bring_down(value.number);
-        }
         SixBit {
-            number: division.bring_down(0).remainder(),
+            number: division.check(values),
         }
     }
 }
@@ -56,6 +53,6 @@ mod tests {
 
     #[test]
     fn empty_check(rt: HostRuntime) {
-        assert_eq!(rt; Cable.check(&[]).get(), 0);
+        assert_eq!(rt; u8::from(Cable.check(&[])), 0);
     }
 }

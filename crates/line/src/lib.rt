@@ -10,10 +10,12 @@ mod cable;
 mod number;
 mod radio;
 mod six_bit;
+mod too_large;
 
 pub use cable::Cable;
 pub use radio::Radio;
 pub use six_bit::SixBit;
+pub use too_large::TooLarge;
 
 // A way to carry six-bit values as bytes. It answers the same whenever the same is asked.
 pub trait Line {

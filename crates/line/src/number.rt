@@ -1,22 +1,13 @@
-ghost use Rattle.std.specs.Prelude.{◌≡◌, ◌%◌, Some, None};
-ghost use Rattle.std.specs.Option.{option_map};
-ghost use Rattle.line.specs.Values.{number_of, six_bit_of};
+ghost use Rattle.std.specs.Prelude.{◌≡◌, ◌%◌};
+ghost use Rattle.line.specs.Values.{number_of};
+ghost use Rattle.line.specs.Conversions.{IsSixBit};
 
 use crate::six_bit::SixBit;
+use crate::too_large::TooLarge;
+use arithmetic::Numbered;
 
 impl SixBit {
     pub const ZERO: SixBit = SixBit { number: 0 };
-
-    // The value of this number, or none from 64 on.
-    pub fn new(number: u8) -> Option<SixBit>
-        ensures { option_map number_of result ≡ six_bit_of number }
-    {
-        if number < 64 {
-            Some(SixBit { number })
-        } else {
-            None
-        }
-    }
 
     // The lowest six bits of a number.
     pub fn lowest(number: u128) -> SixBit
@@ -26,10 +17,34 @@ impl SixBit {
             number: (number % 64) as u8,
         }
     }
+}
 
-    pub fn get(self) -> u8
-        ensures { result ≡ number_of self }
-    {
-        self.number
+impl TryFrom<u8> for SixBit {
+    type Error = TooLarge;
+
+    ghost try_from_gives = { IsSixBit };
+
+    fn try_from(number: u8) -> Result<SixBit, TooLarge> {
+        if number < 64 {
+            Ok(SixBit { number })
+        } else {
+            Err(TooLarge(number))
+        }
+    }
+}
+
+impl From<SixBit> for u8 {
+    ghost from_gives = { λ value number. number ≡ number_of value };
+
+    fn from(value: SixBit) -> u8 {
+        value.number
+    }
+}
+
+impl Numbered for SixBit {
+    ghost number = { number_of };
+
+    fn number(&self) -> u8 {
+        u8::from(*self)
     }
 }

@@ -10,6 +10,7 @@ ghost use Rattle.line.specs.Laws.{radio-lawful};
 
 use crate::Line;
 use crate::six_bit::SixBit;
+use arithmetic::Bits;
 
 // The byte that stands for each value, at the value's place.
 const SYMBOLS: [u8; 64] = [
@@ -37,11 +38,7 @@ fn moved_up(register: u8, bit: u8) -> u8
 fn moved_through(register: u8, byte: u8) -> u8
     ensures { result ≡ register_after register (digits 2 8 byte) }
 {
-    let mut moved = register;
-    for i in (0..8u32).rev() {
-        moved = moved_up(moved, (byte >> i) & 1);
-    }
-    moved
+    Bits::lowest(8, byte).fold(register, moved_up)
 }
 
 fn upper_six(register: u8) -> SixBit
@@ -65,6 +62,7 @@ fn filled_below(count: u8) -> [Option<SixBit>; 256]
     ensures { ReadsBelow count result }
 {
     let mut values = [None; 256];
+    // The number is what is stored, at its symbol's place: no list is indexed by it.
     for number in 0..count {
         let next = SixBit { number };
         values[symbol_of(next) as usize] = Some(next);
@@ -137,8 +135,8 @@ mod tests {
             };
             values.push(value)?;
         }
-        assert_eq!(rt; radio.check(&values).get(), 0x2C);
-        assert_eq!(rt; radio.check(&[]).get(), 0x3F);
+        assert_eq!(rt; u8::from(radio.check(&values)), 0x2C);
+        assert_eq!(rt; u8::from(radio.check(&[])), 0x3F);
         Ok(())
     }
 

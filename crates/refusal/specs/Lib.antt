@@ -1,2 +1,3 @@
 pub mod Refusals
 pub mod Outcomes
+pub mod Words

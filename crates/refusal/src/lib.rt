@@ -4,6 +4,8 @@
 ghost use Rattle.std.specs.Prelude.{◌≡◌};
 ghost use Rattle.refusal.specs.Refusals.{text_of, short_buffer};
 
+mod display;
+
 // The layer that a refusal comes from; it goes with the number alone.
 #[derive(Clone, Copy, PartialEq, Eq, Debug)]
 pub enum Layer {
@@ -13,6 +15,8 @@ pub enum Layer {
     Body,
 }
 
+// Plain numbers: the fields are public, and a layer that is yet to be written refuses with numbers of its own. The faults of
+// the calls are enums.
 #[derive(Clone, Copy, PartialEq, Eq, Debug)]
 pub struct Refusal {
     pub number: u8,
@@ -21,7 +25,8 @@ pub struct Refusal {
 }
 
 impl Refusal {
-    // `!`, the number in two digits, a blank, and the place in three.
+    // `!`, the number in two digits, a blank, and the place in three. Beside `Display`, since this cannot fail and needs
+    // no formatter.
     pub fn text(&self) -> [u8; 7]
         ensures { result ≡ text_of self.now }
     {
@@ -41,14 +46,29 @@ impl Refusal {
 #[derive(Clone, Copy, PartialEq, Eq, Debug)]
 pub struct ShortBuffer;
 
-impl ShortBuffer {
-    pub fn refusal(&self) -> Refusal
-        ensures { result ≡ short_buffer }
-    {
+impl From<ShortBuffer> for Refusal {
+    ghost from_gives = { λ _ refusal. refusal ≡ short_buffer };
+
+    fn from(_: ShortBuffer) -> Refusal {
         Refusal {
             number: 1,
             layer: Layer::Call,
             place: 0,
         }
+    }
+}
+
+#[cfg(test)]
+mod tests {
+    use super::*;
+
+    #[test]
+    fn text_figure(rt: HostRuntime) {
+        let refusal = Refusal {
+            number: 3,
+            layer: Layer::Line,
+            place: 25,
+        };
+        assert!(rt; refusal.text() == *b"!03 025");
     }
 }

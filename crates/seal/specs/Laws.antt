@@ -51,7 +51,7 @@ module _ (k : ℕ) (small : k < 2 ^ 32) where
         let added = bit_xor (stirred words.low) k in
         let below = added-below words.low in
         let same : minus (plus words.high added) added ≡ words.high = omega arith in
-        ap (λ high. record { high = high; low = words.low }) same;
+        rw same;
   }
 
   unmixed-back : TakenBack (unmixed k) (mixed k)
@@ -61,7 +61,7 @@ module _ (k : ℕ) (small : k < 2 ^ 32) where
         let added = bit_xor (stirred words.high) k in
         let below = added-below words.high in
         let same : plus (minus words.low added) added ≡ words.low = omega arith in
-        ap (λ low. record { high = words.high; low = low }) same;
+        rw same;
   }
 
 module _ (key : List ℕ) where
@@ -82,41 +82,34 @@ module _ (key : List ℕ) where
   sum_is zero = refl
   sum_is (suc n) = let before = sum_is n in omega arith
 
+  running_sum-is : (i n : ℕ) → (i + 1) / 2 ≡ n → running_sum i ≡ sum_after n
+  running_sum-is i n half = ap (λ m. m * 0x9E3779B9 % 2 ^ 32) half ∙ sym (sum_is n)
+
   first_key : (n : ℕ) → round_key key (n + n) ≡ plus (sum_after n) (slice_index key (sum_after n % 4))
   first_key n =
       let even : (n + n) % 2 ≡ 0 = omega arith in
-      let half : (n + n + 1) / 2 ≡ n = omega arith in
-      let sum : running_sum (n + n) ≡ sum_after n = ap (λ m. m * 0x9E3779B9 % 2 ^ 32) half ∙ sym (sum_is n) in
-      rw (eq-eqb ((n + n) % 2) 0 even) (ap (λ s. plus s (slice_index key (s % 4))) sum)
+      rw (eq-eqb ((n + n) % 2) 0 even, running_sum-is (n + n) n (omega arith))
 
   second_key : (n : ℕ) → round_key key (suc (n + n)) ≡ plus (sum_after (suc n)) (slice_index key (sum_after (suc n) / 2 ^ 11 % 4))
   second_key n =
       let odd : suc (n + n) % 2 ≡ 0 → ⊥ = λ e. omega arith in
-      let half : (suc (n + n) + 1) / 2 ≡ suc n = omega arith in
-      let sum : running_sum (suc (n + n)) ≡ sum_after (suc n) = ap (λ m. m * 0x9E3779B9 % 2 ^ 32) half ∙ sym (sum_is (suc n)) in
-      rw (ne_eqb (suc (n + n) % 2) 0 odd) (ap (λ s. plus s (slice_index key (s / 2 ^ 11 % 4))) sum)
+      rw (ne_eqb (suc (n + n) % 2) 0 odd, running_sum-is (suc (n + n)) (suc n) (omega arith))
 
   pub mixed-cycles : (n : ℕ) (words : Words) → mixed_by key (n + n) words ≡ cycled key n words
   unfolding mixed_by cycled
   mixed-cycles zero words = refl
   mixed-cycles (suc n) words =
       let more : suc n + suc n ≡ suc (suc (n + n)) = omega arith in
-      ap (λ m. mixed_by key m words) more
-      ∙ ap (λ w. mixed (round_key key (suc (n + n))) (mixed (round_key key (n + n)) w)) (mixed-cycles n words)
-      ∙ ap (λ k. mixed (round_key key (suc (n + n))) (mixed k (cycled key n words))) (first_key n)
-      ∙ ap (λ k. mixed k (mixed (plus (sum_after n) (slice_index key (sum_after n % 4))) (cycled key n words))) (second_key n)
+      rw (more, mixed-cycles n words, first_key n, second_key n)
+
+  closed-mixed : mixed_by key 64 ≡ cycled key 32
+  closed-mixed i words = mixed-cycles 32 words i
 
   closing-back : TakenBack (cycled key 32) (unmixed_by key 64)
-  closing-back = record {
-    fits = λ words fit. subst (λ (w : Words). Fit w) (mixed-cycles 32 words) ((all-mixed-back key 64).fits words fit);
-    back = λ words fit. ap (unmixed_by key 64) (sym (mixed-cycles 32 words)) ∙ (all-mixed-back key 64).back words fit;
-  }
+  closing-back = subst (λ f. TakenBack f (unmixed_by key 64)) closed-mixed (all-mixed-back key 64)
 
   opening-back : TakenBack (unmixed_by key 64) (cycled key 32)
-  opening-back = record {
-    fits = (all-unmixed-back key 64).fits;
-    back = λ words fit. sym (mixed-cycles 32 (unmixed_by key 64 words)) ∙ (all-unmixed-back key 64).back words fit;
-  }
+  opening-back = subst (TakenBack (unmixed_by key 64)) closed-mixed (all-unmixed-back key 64)
 
 words-again : (words : Words) → Fit words → words_of (block_of words) ≡ words
 words-again words fit =
@@ -137,7 +130,7 @@ module _ {f g : Words → Words} (taken : TakenBack f g) (block : ℕ) (small : 
   block-below = omega (arith, made-fit)
 
   block_back : block_of (g (words_of (block_of (f (words_of block))))) ≡ block
-  block_back = ap (λ words. block_of (g words)) (words-again (f (words_of block)) made-fit) ∙ ap block_of (taken.back (words_of block) fit) ∙ omega arith
+  block_back = rw (words-again (f (words_of block)) made-fit, taken.back (words_of block) fit) (omega arith)
 
 pub xtea-lawful : (key : List ℕ) → Lawful (xtea key)
 xtea-lawful key = record {

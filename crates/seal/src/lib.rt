@@ -16,6 +16,7 @@ pub trait Seal {
     ghost code: { Self → SealCode };
 
     // The number by which a frame tells how its body is closed.
+    // It is no enum of the two that are taken: a seal that is yet to be written may have any of the four.
     fn technique(&self) -> u8
         ensures { result ≡ (code self.now).technique };
 

@@ -5,7 +5,7 @@ ghost use Rattle.seal.specs.Laws.{plain-lawful};
 use crate::Seal;
 
 // Changes nothing.
-#[derive(Clone, Copy)]
+#[derive(Clone, Copy, PartialEq, Eq, Debug, Default)]
 pub struct Plain;
 
 impl Seal for Plain {

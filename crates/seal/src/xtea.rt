@@ -1,6 +1,6 @@
 // XTEA with 32 cycles and a key of 128 bits.
 ghost use Rattle.std.specs.Prelude.{◌≡◌, ◌<◌, ◌≤◌};
-ghost use Rattle.seal.specs.Xtea.{key_words, words_of, block_of, stirred, running_sum, key_place, round_key, mixed, unmixed, mixed_by, unmixed_by, cycled, xtea};
+ghost use Rattle.seal.specs.Xtea.{word_at, key_words, running_sum, key_place, round_key, mixed_by, unmixed_by, cycled, xtea};
 ghost use Rattle.seal.specs.Laws.{xtea-lawful};
 
 use crate::Seal;
@@ -12,72 +12,31 @@ const HALF_ROUNDS: u32 = 64;
 // What the running sum grows by in each cycle.
 const DELTA: u32 = 0x9E3779B9;
 
-const WORD: u64 = 0x1_0000_0000;
-
-fn stir(word: u32) -> u32
-    ensures { result ≡ stirred word }
-{
-    ((word << 4) ^ (word >> 5)).wrapping_add(word)
-}
-
 fn running_sum(half_round: u32) -> u32
-    requires { half_round < 64 }
     ensures { result ≡ running_sum half_round }
 {
-    ((half_round + 1) / 2).wrapping_mul(DELTA)
+    half_round.div_ceil(2).wrapping_mul(DELTA)
 }
 
 fn key_place(half_round: u32) -> usize
-    requires { half_round < 64 }
     ensures place { result ≡ key_place half_round }
     ensures below { result < 4 }
 {
     let sum = running_sum(half_round);
-    if half_round % 2 == 0 {
-        (sum % 4) as usize
-    } else {
-        (sum / 2048 % 4) as usize
-    }
+    let bits = if half_round % 2 == 0 { sum } else { sum >> 11 };
+    (bits % 4) as usize
 }
 
-impl Words {
-    fn of(block: u64) -> Words
-        ensures { result ≡ words_of block }
-    {
-        Words {
-            high: (block / WORD) as u32,
-            low: (block % WORD) as u32,
-        }
-    }
-
-    fn block(self) -> u64
-        ensures { result ≡ block_of self }
-    {
-        self.high as u64 * WORD + self.low as u64
-    }
-
-    // A half round under its key.
-    fn mix(self, key: u32) -> Words
-        ensures { result ≡ mixed key self }
-    {
-        Words {
-            high: self.low,
-            low: self.high.wrapping_add(stir(self.low) ^ key),
-        }
-    }
-
-    // A half round taken back.
-    fn unmix(self, key: u32) -> Words
-        ensures { result ≡ unmixed key self }
-    {
-        Words {
-            high: self.low.wrapping_sub(stir(self.high) ^ key),
-            low: self.high,
-        }
-    }
+// The word of four bytes of a key from a place on, high byte first.
+fn word_at(place: usize, key: &[u8; 16]) -> u32
+    requires { place ≤ 12 }
+    ensures { result ≡ word_at place key.now }
+{
+    u32::from_be_bytes([key[place], key[place + 1], key[place + 2], key[place + 3]])
 }
 
-#[derive(Clone, Copy)]
+// It has no `Debug`: a key is not to be printed.
+#[derive(Clone, Copy, PartialEq, Eq)]
 pub struct Xtea {
     key: [u32; 4],
 }
@@ -87,32 +46,37 @@ impl Xtea {
     pub fn new(key: &[u8; 16]) -> Xtea
         ensures { result.key ≡ key_words key.now }
     {
+        // Four calls: tried with `map` and over `as_chunks`, where the proof did not close.
         Xtea {
             key: [
-                u32::from_be_bytes([key[0], key[1], key[2], key[3]]),
-                u32::from_be_bytes([key[4], key[5], key[6], key[7]]),
-                u32::from_be_bytes([key[8], key[9], key[10], key[11]]),
-                u32::from_be_bytes([key[12], key[13], key[14], key[15]]),
+                word_at(0, key),
+                word_at(4, key),
+                word_at(8, key),
+                word_at(12, key),
             ],
         }
     }
 
     fn round_key(&self, half_round: u32) -> u32
-        requires { half_round < 64 }
         ensures { result ≡ round_key self.now.key half_round }
     {
         running_sum(half_round).wrapping_add(self.key[key_place(half_round)])
     }
 
     // The words after the first `count` half rounds.
-    fn mixed_by(&self, count: u32, mut words: Words) -> Words
-        requires { count ≤ 64 }
+    fn mixed_by(&self, count: u32, words: Words) -> Words
         ensures { result ≡ mixed_by self.now.key count words }
     {
-        for i in 0..count {
-            words = words.mix(self.round_key(i));
-        }
-        words
+        (0..count).fold(words, |words, i| words.mix(self.round_key(i)))
+    }
+
+    // The words before the first `count` half rounds.
+    fn unmixed_by(&self, count: u32, words: Words) -> Words
+        ensures { result ≡ unmixed_by self.now.key count words }
+    {
+        (0..count)
+            .rev()
+            .fold(words, |words, i| words.unmix(self.round_key(i)))
     }
 
     // The words after all 32 cycles.
@@ -120,17 +84,6 @@ impl Xtea {
         ensures { result ≡ cycled self.now.key 32 words }
     {
         self.mixed_by(HALF_ROUNDS, words)
-    }
-
-    // The words before the first `count` half rounds.
-    fn unmixed_by(&self, count: u32, mut words: Words) -> Words
-        requires { count ≤ 64 }
-        ensures { result ≡ unmixed_by self.now.key count words }
-    {
-        for i in (0..count).rev() {
-            words = words.unmix(self.round_key(i));
-        }
-        words
     }
 }
 
@@ -144,11 +97,11 @@ impl Seal for Xtea {
     }
 
     fn close(&self, block: u64) -> u64 {
-        self.cycle(Words::of(block)).block()
+        self.cycle(block.into()).into()
     }
 
     fn open(&self, block: u64) -> u64 {
-        self.unmixed_by(HALF_ROUNDS, Words::of(block)).block()
+        self.unmixed_by(HALF_ROUNDS, block.into()).into()
     }
 }
 

@@ -1,15 +1,12 @@
 -- Digits that are read one after the other. Assumes nothing.
-use Rattle.std.proofs.Common.{◌≡◌, ℕ, ◌+◌, ◌-◌, ◌*◌, ◌^◌, ◌<◌, ◌≤◌, List, length, get_or, take, drop, Some, None, Option, refl, lt_of_lt_of_le, arith}
+use Rattle.std.proofs.Common.{◌≡◌, ℕ, ◌+◌, ◌*◌, ◌^◌, ◌<◌, ◌≤◌, List, length, get_or, drop, Some, None, Option, refl, lt_of_lt_of_le, arith}
 use native.Mathlib.Nat.{pow-le-pow_right}
-use Rattle.std.proofs.lemmas.List.{drop_more, drop_all, take_rest}
+use Rattle.std.proofs.lemmas.List.{drop_more, drop_all}
 use Rattle.std.proofs.lemmas.Bool.Decides.{nat_tests}
 use Rattle.std.specs.Option.{option_map}
 use Rattle.std.specs.Int.Digits.{number_from_digits_after}
-use Rattle.text.specs.Hexadecimal.{digit_value, in_front, digit_values, without_prefix}
-
--- what a pattern leaves behind the prefix is the rest to the end
-pub prefix-off : (text : List ℕ) → get_or text 0 0 ≡ 0x30 → get_or text 1 0 ≡ 0x78 → take (length text - 2) (drop 2 text) ≡ without_prefix text
-prefix-off text first second = rw (first, second) (take_rest text 2)
+use Rattle.arithmetic.proofs.Bases.{more-below}
+use Rattle.text.specs.Hexadecimal.{digit_value, in_front, digit_values}
 
 pub digit-below : (c d : ℕ) → digit_value c ≡ Some d → d < 16
 digit-below c d e = grind (arith, nat_tests)
@@ -31,3 +28,6 @@ module _ (characters : List ℕ) (i n : ℕ) where
 
   pub value-all : length characters ≤ i → option_map (number_from_digits_after 16 n) (digit_values (drop i characters)) ≡ Some n
   value-all h = rw (drop_all i characters h)
+
+-- what the proof that reads a number uses at more than one goal
+pub ruleset reading = (value-more, value_none, value-all, digit-below, more-below)

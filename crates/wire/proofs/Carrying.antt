@@ -1,14 +1,11 @@
 -- What is written on a line is read from it again, and a frame that was carried comes back. Assumes nothing.
-use Rattle.std.proofs.Common.{◌≡◌, ℕ, ◌+◌, ◌-◌, ◌<◌, ◌≤◌, true, List, [], ◌∷◌, ◌++◌, map, length, get_or, take, drop, set, Some, None, Ok, Option, unwrap_or, sym, refl, ap, ◌∙◌, arith, length-set}
-use borrow.Rule.Slice.PartMut.{post_of}
-use Rattle.std.proofs.lemmas.List.{length-map, length-take-le, get_or-set_same, drop-set-lt, set-set, set-get_or, take_at}
+use Rattle.std.proofs.Common.{◌≡◌, ℕ, ◌+◌, ◌<◌, ◌≤◌, true, List, [], ◌∷◌, ◌++◌, map, length, get_or, take, drop, set, Some, None, Ok, Option, unwrap_or, sym, refl, ap, ◌∙◌, arith, length-set}
+use Rattle.std.proofs.lemmas.List.{length-map, get_or-set_same, drop-set-lt, set-set, set-get_or, take_at}
 use Rattle.std.proofs.ByRecursion.{All-drop, All-set}
 use Rattle.std.proofs.lemmas.Bool.{eq-eqb, eqb-true, le-leb}
 use Rattle.std.proofs.lemmas.Bool.Decides.{nat_tests}
 use Rattle.std.specs.Option.{option_map}
 use Rattle.std.specs.Int.Digits.{AllBelowBase}
-use Rattle.line.specs.declared.six_bit.SixBit.{SixBit}
-use Rattle.line.specs.Values.{numbers}
 use Rattle.line.specs.Code.{LineCode, Lawful, value_of}
 use Rattle.line.proofs.Codes.{symbol-value, value-small, value-symbol}
 use Rattle.wire.specs.declared.fault.LineFault.TheVariants.{Length, NoSymbol, Check}
@@ -26,13 +23,6 @@ frame-least n e = grind (arith, nat_tests)
 
 pub frame-most : (n : ℕ) → frame_length n ≡ true → n ≤ 48
 frame-most n e = grind (arith, nat_tests)
-
-pub values-long : (vs : List SixBit) (n : ℕ) → length vs ≡ 48 → frame_length n ≡ true → length (numbers (take n vs)) ≡ n
-values-long vs n long e = let h = frame-most n e in rw (length-map, length-take-le n vs (omega arith))
-
--- a frame's bytes written over the front of a buffer
-pub front-written : (code : LineCode) (vs : List SixBit) (n : ℕ) (was out : List ℕ) → length vs ≡ 48 → frame_length n ≡ true → 48 ≤ length was → out ≡ symbols_of code (numbers (take (n - 0) vs)) → Written code (numbers (take n vs)) was (out ++ post_of 0 (n - 0) was) (Ok n)
-front-written code vs n was out long e h eo = let z : n - 0 ≡ n = omega arith in (h, sym (values-long vs n long e), rw (eo, z))
 
 -- what a frame that is not refused has
 pub record Sound (code : LineCode) (bytes : List ℕ) : Type 0 where

@@ -6,6 +6,7 @@ ghost use Rattle.wire.specs.Calls.{Carried, CarriesBack};
 use line::Line;
 use refusal::ShortBuffer;
 
+mod display;
 mod fault;
 mod frame_values;
 mod read;
@@ -53,7 +54,7 @@ mod tests {
             layer: Layer::Call,
             place: 0,
         };
-        assert_eq!(rt; fault.refusal(), expected);
+        assert_eq!(rt; Refusal::from(fault), expected);
         assert!(rt; out == [0xEE; 47]);
         Ok(())
     }

@@ -5,41 +5,35 @@ ghost use Rattle.wire.specs.declared.fault.CarryFault.TheVariants.{Buffer as in_
 use crate::fault::{CarryFault, LineFault};
 use refusal::{Layer, Refusal, ShortBuffer};
 
-impl LineFault {
-    pub fn refusal(&self) -> Refusal
-        ensures { result ≡ line_refused self.now }
-    {
-        match *self {
-            LineFault::Length => Refusal {
-                number: 2,
-                layer: Layer::Line,
-                place: 0,
-            },
-            LineFault::NoSymbol(place) => Refusal {
-                number: 3,
-                layer: Layer::Line,
-                place,
-            },
-            LineFault::Check => Refusal {
-                number: 4,
-                layer: Layer::Line,
-                place: 0,
-            },
+impl From<LineFault> for Refusal {
+    ghost from_gives = { λ fault refusal. refusal ≡ line_refused fault };
+
+    fn from(fault: LineFault) -> Refusal {
+        let (number, place) = match fault {
+            LineFault::Length => (2, 0),
+            LineFault::NoSymbol(place) => (3, place),
+            LineFault::Check => (4, 0),
+        };
+        Refusal {
+            number,
+            layer: Layer::Line,
+            place,
         }
     }
 }
 
-impl CarryFault {
-    pub fn refusal(&self) -> Refusal
-        ensures { result ≡ carry_refused self.now }
-    {
-        match self {
-            CarryFault::Buffer(fault) => fault.refusal(),
-            CarryFault::Line(fault) => fault.refusal(),
+impl From<CarryFault> for Refusal {
+    ghost from_gives = { λ fault refusal. refusal ≡ carry_refused fault };
+
+    fn from(fault: CarryFault) -> Refusal {
+        match fault {
+            CarryFault::Buffer(inner) => Refusal::from(inner),
+            CarryFault::Line(inner) => Refusal::from(inner),
         }
     }
 }
 
+// By hand, this and the next: what a derive writes has no contract, and those of the callers name the fault that `?` makes.
 impl From<ShortBuffer> for CarryFault {
     ghost from_gives = { λ e r. r ≡ in_buffer e };
 

@@ -1,4 +1,4 @@
-// A frame's values written as bytes.
+// A frame's values written as bytes. A line is handed along and goes into no struct, as in reading.
 ghost use Rattle.std.specs.Prelude.{◌≡◌, ◌≤◌, map, length};
 ghost use Rattle.line.specs.Values.{numbers};
 ghost use Rattle.wire.specs.Frames.{symbols_of};
@@ -16,8 +16,9 @@ fn write_symbols<L: Line>(line: &L, values: &[SixBit], out: &mut [u8])
     requires { length out.old ≡ length values.now }
     ensures { out.new ≡ map (L.Line.code line.now).symbol (numbers values.now) }
 {
-    for i in 0..values.len() {
-        out[i] = line.symbol(values[i]);
+    for (place, value) in values.iter().enumerate() {
+        // By index: tried with `iter_mut` and `zip`, after which a proof knows nothing of what was written.
+        out[place] = line.symbol(*value);
     }
 }
 
@@ -36,10 +37,11 @@ impl FrameValues {
     pub fn write<L: Line>(&self, line: &L, out: &mut [u8]) -> Result<usize, ShortBuffer>
         ensures { Written (L.Line.code line.now) (values_in self.now) out.old out.new result }
     {
+        // Tested in `carry` too, which refuses a short buffer before it reads the frame.
         if out.len() < FRAME_ROOM {
             return Err(ShortBuffer);
         }
-        encode(line, &self.values[0..self.count], &mut out[0..self.count]);
+        encode(line, self.as_slice(), &mut out[0..self.count]);
         Ok(self.count)
     }
 }

@@ -1,25 +1,12 @@
-use Rattle.std.proofs.Common.{◌≡◌, ℕ, ◌^◌, ◌<◌, length, subst, arith, rules}
-use Rattle.arithmetic.proofs.Bases.{more-below}
-use Rattle.fields.proofs.Places.{room, number_more, number-all}
+use Rattle.std.proofs.Common.{◌≡◌, ap, ◌∙◌, arith}
+use Rattle.std.proofs.lemmas.List.{take_all}
+use Rattle.std.specs.Int.Digits.{number_from_digits}
+use Rattle.line.specs.Values.{numbers}
+use Rattle.fields.proofs.Places.{number-below}
 use Rattle.fields.proofs.numbers.number_of.Goals as goal
-
-pub overflow_mul-sum : goal.overflow_mul-sum
-overflow_mul-sum c = let r = room c.loop-value.value-index c.loop-value.sum (omega arith) c.loop-value.invariant.1 in search rules
-
-pub overflow_add-sum : goal.overflow_add-sum
-overflow_add-sum c = let r = room c.loop-value.value-index c.loop-value.sum (omega arith) c.loop-value.invariant.1 in search rules
-
-pub loop-value-preserved : goal.loop-value-preserved
-loop-value-preserved c =
-    let small : c.get.result < 64 = omega (arith, c.get.ensures, c.value-item.result.small) in (
-      number_more c.args.values.now c.value-item.result c.loop-value.value-index c.loop-value.sum c.get.result _ (omega arith) c.value-item.is c.get.ensures c.loop-value.invariant.0,
-      more-below 64 c.loop-value.value-index c.loop-value.sum c.get.result c.loop-value.invariant.1 small,
-    )
 
 pub returns : goal.returns
 returns c =
-    let e : c.loop-value.value-index ≡ length c.args.values.now = omega arith in
-    record {
-      value = number-all c.args.values.now c.loop-value.value-index c.loop-value.sum _ (omega arith) c.loop-value.invariant.0;
-      below = subst (λ (n : ℕ). c.loop-value.sum < 64 ^ n) e c.loop-value.invariant.1;
-    }
+    let vs = c.args.values.now in
+    let whole : c.loop-value.sum ≡ number_from_digits 64 (numbers vs) = c.loop-value.invariant ∙ ap (λ xs. number_from_digits 64 (numbers xs)) (take_all c.loop-value.value-index vs (omega arith)) in
+    record { value = whole; below = rw whole (number-below vs) }

@@ -1,9 +1,6 @@
-use Rattle.std.proofs.Common.{◌≡◌, ◌*◌, ◌^◌, map, take, drop}
-use Rattle.std.specs.Int.Digits.{number_from_digits}
-use Rattle.arithmetic.specs.Digits.{digits}
+use Rattle.std.proofs.Common.{◌≡◌, ◌*◌, ◌++◌, take, drop}
+use Rattle.frame.specs.Payloads.{opened_from}
 use Rattle.frame.proofs.payload.put_blocks.Given as goal
 
 abbrev pub invariant-loop-k : goal.invariant-loop-k
-invariant-loop-k g l =
-    (take (8 * l.k) l.work ≡ digits 256 (8 * l.k) (number_from_digits (2 ^ 64) (map (g.S.Seal.code l.seal).opened (take l.k l.body.blocks))))
-    × (drop (8 * l.k) l.work ≡ drop (8 * l.k) l.initial.work)
+invariant-loop-k g l = l.work ≡ opened_from (g.S.Seal.code l.seal) l.k (take l.k l.blocks) ++ drop (8 * l.k) l.initial.work

@@ -1,5 +1,4 @@
-use Rattle.std.proofs.Common.{◌≡◌, ℕ, refl, subst, arith, length-set, rules}
-use Rattle.line.specs.Radio.{ReadsBelow}
+use Rattle.std.proofs.Common.{refl, length-set, rules}
 use Rattle.line.proofs.Radios.{reads_none, reads_more}
 use Rattle.line.proofs.radio.filled_below.Goals as goal
 
@@ -11,6 +10,3 @@ loop-number-preserved c = (
   simp length-set c.loop-number.invariant.0,
   reads_more c.loop-number.number _ _ c.loop-number.values c.loop-number.invariant.0 refl c.symbol_of.ensures (search rules) c.loop-number.invariant.1,
 )
-
-pub returns : goal.returns
-returns c = let e : c.loop-number.number ≡ c.args.count = omega arith in subst (λ (n : ℕ). ReadsBelow n c.loop-number.values) e c.loop-number.invariant.1

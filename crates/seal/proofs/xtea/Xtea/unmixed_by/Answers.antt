@@ -1,13 +1,9 @@
-use Rattle.std.proofs.Common.{◌-◌, ap, ◌∙◌, arith}
-use Rattle.seal.specs.Xtea.{unmixed_by}
-use Rattle.seal.proofs.Rounds.{unmixed-fewer, unmixed-none}
+use Rattle.std.proofs.Common.{rules, ◌∙◌}
+use Rattle.std.proofs.lemmas.Iterator.Consumers.{fold_from_yields_List}
+use Rattle.seal.proofs.Rounds.{YieldsList-from_rev_range, fold-unmixed}
 use Rattle.seal.proofs.xtea.Xtea.unmixed_by.Goals as goal
 
-pub loop-i-preserved : goal.loop-i-preserved
-loop-i-preserved c =
-    ap (unmixed_by c.args.self.now.key (c.loop-i.i - 1)) c.unmix-words.ensures
-    ∙ unmixed-fewer _ c.loop-i.i _ c.loop-i.words (omega arith) c.round_key.ensures
-    ∙ c.loop-i.invariant
-
 pub returns : goal.returns
-returns c = unmixed-none _ c.loop-i.i _ (omega arith) ∙ c.loop-i.invariant
+returns c =
+    fold_from_yields_List _ _ _ _ c.fold.ensures.ran (YieldsList-from_rev_range c.args.count c.rev.ensures.source) (λ a x b q k. search rules)
+    ∙ fold-unmixed c.args.self.now.key c.args.count c.args.words

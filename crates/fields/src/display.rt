@@ -49,3 +49,23 @@ impl fmt::Display for UnknownSize {
 }
 
 impl Error for UnknownSize {}
+
+#[cfg(test)]
+mod tests {
+    use super::*;
+    use std::alloc::AllocError;
+
+    #[test]
+    fn printed(rt: HostRuntime) -> Result<(), AllocError> {
+        let heap = rt.alloc();
+        let text = format!(in heap;
+            "{}, {}, {}",
+            FrameType::Ack,
+            UnknownType(4),
+            UnknownSize(0)
+        )?;
+        let expected = "ACK, no type of frame has the number 4, no frame has the size 0";
+        assert_eq!(rt; text.as_str(), expected);
+        Ok(())
+    }
+}

@@ -35,3 +35,22 @@ impl fmt::Display for FrameFault {
 }
 
 impl Error for FrameFault {}
+
+#[cfg(test)]
+mod tests {
+    use super::*;
+    use std::alloc::AllocError;
+    use wire::LineFault;
+
+    #[test]
+    fn printed(rt: HostRuntime) -> Result<(), AllocError> {
+        let heap = rt.alloc();
+        let inner = FrameFault::Line(LineFault::Check);
+        let text = format!(in heap; "{}, {inner}", FrameFault::Network)?;
+        assert_eq!(rt;
+            text.as_str(),
+            "the network ID is another, the check differs"
+        );
+        Ok(())
+    }
+}

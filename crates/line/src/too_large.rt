@@ -17,3 +17,16 @@ impl fmt::Display for TooLarge {
 }
 
 impl Error for TooLarge {}
+
+#[cfg(test)]
+mod tests {
+    use super::*;
+    use std::alloc::AllocError;
+
+    #[test]
+    fn printed(rt: HostRuntime) -> Result<(), AllocError> {
+        let text = TooLarge(64).to_string(rt.alloc())?;
+        assert_eq!(rt; text.as_str(), "64 does not fit six bits");
+        Ok(())
+    }
+}

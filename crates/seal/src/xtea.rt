@@ -46,7 +46,8 @@ impl Xtea {
     pub fn new(key: &[u8; 16]) -> Xtea
         ensures { result.key ≡ key_words key.now }
     {
-        // Four calls: tried with `map` and over `as_chunks`, where the proof did not close.
+        // Four calls, one for each word, as the definition has it: `map` over the four places is no shorter, and the check then
+        // leaves goals that it finds alone here.
         Xtea {
             key: [
                 word_at(0, key),

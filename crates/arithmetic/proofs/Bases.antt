@@ -1,10 +1,15 @@
 -- Digits in a base: either way between a number and its digits leads back. Assumes nothing.
-use Rattle.std.proofs.Common.{◌≡◌, ℕ, zero, suc, ◌+◌, ◌*◌, ◌/◌, ◌%◌, ◌^◌, ◌<◌, List, [], ◌∷◌, ◌++◌, length, sym, refl, ap, ◌∙◌, add_assoc, mod-lt, mod-eq_of_lt, mul_assoc, mul_comm, add-mul, suc-add, mul-pos, pow-suc, zero-add, zero-mul, mul-one, add-one, arith, pow-add}
+use Rattle.std.proofs.Common.{◌≡◌, ℕ, zero, suc, ◌+◌, ◌*◌, ◌/◌, ◌%◌, ◌^◌, ◌<◌, List, [], ◌∷◌, ◌++◌, length, sym, refl, ap, ◌∙◌, add_assoc, mod-lt, mod-eq_of_lt, mul_assoc, mul_comm, add-mul, suc-add, mul-pos, mul-zero, mul-suc, pow-suc, zero-add, zero-mul, mul-one, add-one, arith, pow-add}
 use native.Mathlib.Nat.{pow-zero, add-mul-div_right, mul-add-mod_self_right, div-div-eq-div-mul}
 use lib.Arith.{digits_lt, digits_div, mod-mul}
 use Rattle.std.specs.Int.Digits.{number_from_digits, number_from_digits_after, AllBelowBase}
 use Rattle.std.proofs.lemmas.Int.Digits.{number_lt}
 use Rattle.arithmetic.specs.Digits.{digits}
+
+-- a power of a power
+pub pow-mul : (b i k : ℕ) → b ^ (i * k) ≡ (b ^ i) ^ k
+pow-mul b i zero = rw (mul-zero, pow-zero b, pow-zero (b ^ i))
+pow-mul b i (suc k) = rw (mul-suc, pow-add, pow-suc, pow-mul b i k)
 
 -- a digit put in front of others
 cons : {x y : ℕ} {xs ys : List ℕ} → x ≡ y → xs ≡ ys → ◌≡◌ {A = List ℕ} (x ∷ xs) (y ∷ ys)

@@ -5,7 +5,7 @@ ghost use Rattle.arithmetic.specs.Digits.{digits};
 ghost use Rattle.arithmetic.specs.Bits.{bits_left};
 
 // The lowest bits of a number that are still to come, high bit first.
-#[derive(Clone, Copy)]
+#[derive(Clone, Drop)]
 pub struct Bits {
     number: u8,
     left: u32,

@@ -7,9 +7,8 @@ use Rattle.std.proofs.ByRecursion.{All-push}
 use Rattle.std.proofs.lemmas.List.{drop-set-lt, drop-drop, drop-replicate, length-take-le, length-drop, drop_more, take_more_set}
 use Rattle.std.specs.Int.Digits.{number_from_digits, AllBelowBase}
 use Rattle.arithmetic.specs.Digits.{digits}
-use Rattle.arithmetic.proofs.Bases.{power_pos, number_append, number-cons, number-again, digits-again}
+use Rattle.arithmetic.proofs.Bases.{pow-mul, power_pos, number_append, number-cons, number-again, digits-again}
 use Rattle.fields.specs.Bodies.{body_number, closed_blocks, filling_of}
-use Rattle.fields.proofs.Places.{pow-mul}
 
 pub spare_more : (k : ℕ) → 4 ^ (k + 1) ≡ 4 ^ k * 4
 spare_more k = rw (add-one, pow-suc)

@@ -1,6 +1,6 @@
 -- Numbers read from values one by one, and written one by one. Assumes nothing.
-use Rattle.std.proofs.Common.{◌≡◌, ℕ, zero, suc, mul-zero, mul-suc, ◌+◌, ◌-◌, ◌*◌, ◌/◌, ◌%◌, ◌^◌, ◌<◌, ◌≤◌, List, [], ◌∷◌, ◌++◌, length, take, drop, set, sym, refl, ap, ◌∙◌, subst, arith, pow-add, pow-suc, length-set}
-use native.Mathlib.Nat.{pow-zero, div-div-eq-div-mul}
+use Rattle.std.proofs.Common.{◌≡◌, ℕ, suc, ◌+◌, ◌-◌, ◌/◌, ◌%◌, ◌^◌, ◌<◌, ◌≤◌, List, [], ◌∷◌, ◌++◌, length, take, drop, set, sym, refl, ap, ◌∙◌, subst, arith, pow-suc, length-set}
+use native.Mathlib.Nat.{div-div-eq-div-mul}
 use borrow.Rule.Slice.PartMut.{put_mid}
 use Rattle.std.proofs.lemmas.List.{map-append, map-set, take_all, drop-set, length-map, length-take, length-take-le, length-drop, length-append}
 use Rattle.std.proofs.lemmas.Slice.{take-put_mid}
@@ -17,11 +17,6 @@ numbers-under (v ∷ vs) = (v.small, numbers-under vs)
 
 pub number-below : (vs : List SixBit) → number_from_digits 64 (numbers vs) < 64 ^ length vs
 number-below vs = subst (λ (n : ℕ). number_from_digits 64 (numbers vs) < 64 ^ n) (length-map vs number_of) (number_lt 64 (numbers vs) (numbers-under vs))
-
--- a power of a power
-pub pow-mul : (b i k : ℕ) → b ^ (i * k) ≡ (b ^ i) ^ k
-pow-mul b i zero = rw (mul-zero, pow-zero b, pow-zero (b ^ i))
-pow-mul b i (suc k) = rw (mul-suc, pow-add, pow-suc, pow-mul b i k)
 
 -- the digits of a number from the lowest on, of which `high` is what is left to write
 pub record Written (number : ℕ) (vs : List SixBit) (i high : ℕ) : Type 0 where

@@ -1,9 +1,9 @@
 -- The digits of a number, each from the place that it has. Assumes nothing.
-use Rattle.std.proofs.Common.{◌≡◌, ℕ, zero, suc, ◌+◌, ◌-◌, ◌*◌, ◌/◌, ◌%◌, ◌^◌, ◌<◌, ◌≤◌, List, [], ◌∷◌, ◌++◌, map, get_or, sym, refl, ap, ◌∙◌, pow-suc, pow-add, add-one, arith, length, drop, set, take, inl, inr}
+use Rattle.std.proofs.Common.{◌≡◌, ℕ, zero, suc, ◌+◌, ◌-◌, ◌*◌, ◌/◌, ◌%◌, ◌^◌, ◌<◌, ◌≤◌, List, [], ◌∷◌, ◌++◌, map, get_or, sym, refl, ap, ◌∙◌, add-one, arith, length, drop, set, take, inl, inr}
 use Rattle.std.proofs.Math.Nat.{pow-le-pow_right, div-eq_of_lt}
 use Rattle.std.proofs.lemmas.List.{drop-set, drop_all, take_all, take_more, drop_more, length-map}
 use Rattle.std.proofs.lemmas.Bool.{cases_lt}
-use Rattle.arithmetic.proofs.Bases.{length_digits}
+use Rattle.arithmetic.proofs.Bases.{pow-mul, length_digits}
 use Rattle.std.proofs.lemmas.List.FromFn.{get_or-map-range_with_len}
 use Rattle.std.specs.List.{range_with_len}
 use Rattle.std.specs.Prelude.{slice_range, codes}
@@ -13,14 +13,8 @@ use Rattle.std.proofs.Output.{has_written_append, has_written_of_eq}
 use Rattle.text.specs.Hexadecimal.{hex_digit, hex}
 
 -- Four bits are a digit.
-sixteen : (place : ℕ) → 2 ^ (4 * place) ≡ 16 ^ place
-sixteen zero = refl
-sixteen (suc place) =
-    let e : 4 * suc place ≡ 4 * place + 4 = omega arith in
-    ap (λ k. 2 ^ k) e ∙ pow-add 2 (4 * place) 4 ∙ ap (λ x. x * 16) (sixteen place) ∙ sym (pow-suc 16 place)
-
 pub shifted : (n place rest : ℕ) → rest ≡ n / 2 ^ (4 * place) → rest ≡ n / 16 ^ place
-shifted n place rest e = rw sixteen at e
+shifted n place rest e = rw (pow-mul 2 4 place) at e
 
 -- A number of 64 bits has no digit past the sixteenth.
 pub none-past : (n place : ℕ) → n < 2 ^ 64 → 16 ≤ place → n / 16 ^ place ≡ 0

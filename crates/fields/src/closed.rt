@@ -43,6 +43,6 @@ impl ClosedFrame {
         let count = self.count();
         let mut values = FrameValues::room();
         put_frame(self, &mut values[..count]);
-        FrameValues::try_from(&values[..count]).unwrap()
+        FrameValues::new(values, count).unwrap()
     }
 }

@@ -1,6 +1,6 @@
 // A frame's bytes read as values. A line is handed along and goes into no struct: what is read with it is another thing in each
 // function.
-ghost use Rattle.std.specs.Prelude.{◌≡◌, ◌≤◌, true, length, replicate, ⊤};
+ghost use Rattle.std.specs.Prelude.{◌≡◌, ◌≤◌, true, length, take, replicate, ⊤, Some, None, if◌then◌else◌};
 ghost use Rattle.std.specs.Option.{option_map};
 ghost use Rattle.refusal.specs.Outcomes.{unless, Outcome};
 ghost use Rattle.line.specs.Values.{numbers};
@@ -75,6 +75,17 @@ impl FrameValues {
         let mut values = FrameValues::room();
         read_into(line, frame, &mut values[0..count])?;
         Ok(FrameValues { values, count })
+    }
+
+    // The frame whose values are the first of these, or none where no frame has so many. Beside `TryFrom`, since any number may
+    // be asked for here, also one that the array has no room for.
+    pub fn new(values: [SixBit; 48], count: usize) -> Option<FrameValues>
+        ensures { option_map values_in result ≡ (if frame_length count then Some (numbers (take count values)) else None) }
+    {
+        match check_length(count) {
+            Ok(()) => Some(FrameValues { values, count }),
+            Err(_) => None,
+        }
     }
 
     pub fn as_slice(&self) -> &[SixBit]

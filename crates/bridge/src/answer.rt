@@ -1,5 +1,5 @@
 // What the bridge answers to a line of its input.
-ghost use Rattle.std.specs.Prelude.{◌≡◌, Some, IfOk};
+ghost use Rattle.std.specs.Prelude.{◌≡◌, Some, IfOk, is_ok, is_some, not};
 ghost use Rattle.refusal.specs.Outcomes.{Outcome};
 ghost use Rattle.bridge.specs.Answers.{refused_for, carried_for, text_for, answer_text};
 
@@ -16,8 +16,18 @@ pub struct Answer {
     pub frame: Result<Vec<u8>, CarryFault>,
 }
 
+impl Answer {
+    // Whether the frame was carried, as it counts.
+    pub fn carried(&self) -> bool
+        ensures { result ≡ is_ok self.now.frame }
+    {
+        self.frame.is_ok()
+    }
+}
+
 // Carries a cable frame to the radio.
 pub fn answer_to(heap: Global, radio: &Radio, frame: &[u8]) -> Result<Answer, AllocError>
+    ensures carried { IfOk result (λ a. is_ok a.frame ≡ not (is_some (refused_for frame.now))) }
     ensures outcome { IfOk result (λ a. Outcome (refused_for frame.now) (λ bytes. bytes.items ≡ carried_for frame.now) a.frame) }
     ensures printed { IfOk result (λ a. answer_text a ≡ text_for frame.now) }
 {

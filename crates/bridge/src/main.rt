@@ -6,7 +6,7 @@ use line::Radio;
 use std::io;
 use std::io::{BufRead, BufReader, Write};
 use tally::Tally;
-use text::frame_in;
+use text::{fill, frame_in};
 
 mod answer;
 mod tally;
@@ -28,10 +28,9 @@ fn main(rt: HostRuntime) -> io::Result<()> {
             break;
         }
         let answer = answer_to(heap, &radio, frame_in(&line))?;
-        tally = tally.count(&answer);
+        tally = tally.count(answer.carried());
         // One write for a line. A `LineWriter` in front of the output makes it one too, but the program takes twice as long.
-        text.clear();
-        write!(text, "{answer}")?;
+        fill(&mut text, &answer)?;
         output.write_all(text.as_bytes())?;
     }
     println!(rt; "{tally}")

@@ -1,7 +1,6 @@
 // How many lines were carried, and how many refused.
-ghost use Rattle.std.specs.Prelude.{◌≡◌, ◌+◌, ◌-◌, ◌^◌, min, ◌++◌, if◌then◌else◌, is_ok, Some, codes, decimal};
+ghost use Rattle.std.specs.Prelude.{◌≡◌, ◌+◌, ◌-◌, ◌^◌, min, ◌++◌, if◌then◌else◌, Some, codes, decimal};
 
-use crate::answer::Answer;
 use std::fmt;
 
 #[derive(Clone, Copy, Default)]
@@ -12,19 +11,20 @@ pub struct Tally {
 
 impl Tally {
     // One line more; a count stays at the largest number once it is there.
-    pub fn count(self, answer: &Answer) -> Tally
-        ensures carried { result.carried ≡ min (self.carried + (if is_ok answer.now.frame then 1 else 0)) (2 ^ 64 - 1) }
-        ensures refused { result.refused ≡ min (self.refused + (if is_ok answer.now.frame then 0 else 1)) (2 ^ 64 - 1) }
+    pub fn count(self, carried: bool) -> Tally
+        ensures carried { result.carried ≡ min (self.carried + (if carried then 1 else 0)) (2 ^ 64 - 1) }
+        ensures refused { result.refused ≡ min (self.refused + (if carried then 0 else 1)) (2 ^ 64 - 1) }
     {
-        match answer.frame {
-            Ok(_) => Tally {
+        if carried {
+            Tally {
                 carried: self.carried.saturating_add(1),
                 ..self
-            },
-            Err(_) => Tally {
+            }
+        } else {
+            Tally {
                 refused: self.refused.saturating_add(1),
                 ..self
-            },
+            }
         }
     }
 }

@@ -8,7 +8,7 @@ use frame::Address;
 use std::env;
 use std::io::{BufRead, BufReader, Write};
 use std::process::ExitCode;
-use text::frame_in;
+use text::{fill, frame_in};
 
 mod expect;
 mod explain;
@@ -45,8 +45,7 @@ fn run(rt: &HostRuntime) -> anyhow::Result<()> {
         }
         let explanation = explain(expected, frame_in(&line));
         // One write for a line.
-        text.clear();
-        write!(text, "{explanation}")?;
+        fill(&mut text, &explanation)?;
         output.write_all(text.as_bytes())?;
     }
     Ok(())

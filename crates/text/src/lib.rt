@@ -1,11 +1,13 @@
 // Text as the programs read and write it: lines, and numbers in hexadecimal.
 #![tactic(auto)]
 
+mod fill_text;
 mod line;
 mod read_hex;
 mod show_hex;
 mod write_hex;
 
+pub use fill_text::fill;
 pub use line::frame_in;
 pub use read_hex::hex_value;
 pub use show_hex::{Hex, HexBytes};
@@ -34,6 +36,15 @@ mod tests {
         let spaced = format!(in heap; "{}", HexBytes::spaced(&bytes))?;
         assert_eq!(rt; joined.as_str(), "01AB");
         assert_eq!(rt; spaced.as_str(), " 01 AB");
+        Ok(())
+    }
+
+    #[test]
+    fn filled_anew(rt: HostRuntime) -> Result<(), AllocError> {
+        let mut text = String::new(rt.alloc());
+        fill(&mut text, &Hex::<3>(0x123))?;
+        fill(&mut text, &HexBytes::spaced(&[0xAB]))?;
+        assert_eq!(rt; text.as_str(), " AB");
         Ok(())
     }
 

@@ -32,10 +32,8 @@ impl fmt::Display for Layer {
 impl fmt::Display for Refusal {
     ghost output = { λ refusal. Some (text_of refusal) };
 
-    #[tactic(auto, using(crate::proofs::Numerals::two_digits, crate::proofs::Numerals::three_digits))]
     fn fmt<W: fmt::Write>(&self, f: &mut fmt::Formatter<W>) -> fmt::Result {
-        let Refusal { number, place, .. } = *self;
-        write!(f, "!{:02} {place:03}", number % 100)
+        f.write_str(str::from_utf8(&self.text()).unwrap())
     }
 }
 

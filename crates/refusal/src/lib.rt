@@ -25,8 +25,8 @@ pub struct Refusal {
 }
 
 impl Refusal {
-    // `!`, the number in two digits, a blank, and the place in three. Beside `Display`, since this cannot fail and needs
-    // no formatter.
+    // `!`, the number in two digits, a blank, and the place in three: what `Display` writes, without a formatter, so that it
+    // cannot fail.
     pub fn text(&self) -> [u8; 7]
         ensures { result ≡ text_of self.now }
     {

@@ -1,5 +1,5 @@
 -- What is worked out bit by bit, over one number and over a list of them. Assumes nothing.
-use Rattle.std.proofs.Common.{◌≡◌, ℕ, zero, suc, ◌+◌, ◌-◌, ◌/◌, ◌^◌, ◌<◌, ◌≤◌, Some, None, Option, List, [], ◌∷◌, ◌++◌, length, get_or, drop, fold, sym, refl, append_assoc, arith}
+use Rattle.std.proofs.Common.{◌≡◌, ℕ, zero, suc, ◌+◌, ◌-◌, ◌/◌, ◌%◌, ◌^◌, ◌<◌, ◌≤◌, Some, None, Option, List, [], ◌∷◌, ◌++◌, length, get_or, drop, fold, sym, refl, append_assoc, arith}
 use lib.Bits.{bit_and}
 use Rattle.std.proofs.lemmas.Nat.{mod_below, and_mask}
 use Rattle.std.proofs.ByRecursion.{All-append}
@@ -17,6 +17,11 @@ pub bits_of-under : (k : ℕ) (ns : List ℕ) → AllBelowBase 2 (bits_of k ns)
 bits_of-under k [] = tt
 bits_of-under k (n ∷ ns) = All-append (λ b. b < 2) (digits 2 k n) (bits_of k ns) (bits-under k n) (bits_of-under k ns)
 
+-- the highest of i bits, and the others
+digits_step : (i n : ℕ) → 0 < i → digits 2 i n ≡ (n / 2 ^ (i - 1) % 2) ∷ digits 2 (i - 1) n
+digits_step zero n h = absurd (omega arith)
+digits_step (suc k) n h = let e : suc k - 1 ≡ k = omega arith in rw e
+
 -- what a shift gives that is refused where it leaves nothing
 shifted : (n k : ℕ) (moved : Option ℕ) → n < 256 → SomeIff moved (k < 8) (n / 2 ^ k) → unwrap_or moved 0 ≡ n / 2 ^ k
 shifted n k None small refused =
@@ -24,13 +29,10 @@ shifted n k None small refused =
     sym (div-eq_of_lt {n = n} {m = 2 ^ k} (omega arith))
 shifted n k (Some x) small given = given.1
 
--- the highest of so many bits, as code takes it, and the others
-pub digits_step : (n left next : ℕ) (moved : Option ℕ) → n < 256 → 1 ≤ left → next ≡ left - 1 → SomeIff moved (next < 8) (n / 2 ^ next)
+-- the same of a byte, its highest bit as code takes it
+pub byte-step : (n left next : ℕ) (moved : Option ℕ) → n < 256 → 1 ≤ left → next ≡ left - 1 → SomeIff moved (next < 8) (n / 2 ^ next)
     → digits 2 left n ≡ bit_and (unwrap_or moved 0) 1 ∷ digits 2 next n
-digits_step n zero next moved small some e given = absurd (omega arith)
-digits_step n (suc k) next moved small some e given =
-    let same : next ≡ k = omega arith in
-    rw (shifted n next moved small given, and_mask (n / 2 ^ next) 1, same)
+byte-step n left next moved small some e given = rw (digits_step left n some, shifted n next moved small given, and_mask (n / 2 ^ next) 1, e)
 
 module _ (f : ℕ → ℕ → ℕ) where
   folded-append : (a : ℕ) (xs ys : List ℕ) → fold f a (xs ++ ys) ≡ fold f (fold f a xs) ys

@@ -14,7 +14,7 @@ pub spare_more : (k : ℕ) → 4 ^ (k + 1) ≡ 4 ^ k * 4
 spare_more k = rw (add-one, pow-suc)
 
 -- so many values hold as many blocks and two bits more for each
-room-of-blocks : (m : ℕ) → 64 ^ (11 * m) ≡ (2 ^ 64) ^ m * 4 ^ m
+pub room-of-blocks : (m : ℕ) → 64 ^ (11 * m) ≡ (2 ^ 64) ^ m * 4 ^ m
 room-of-blocks m = pow-mul 64 11 m ∙ mul-pow (2 ^ 64) 4 m
 
 -- from the values so far the first k blocks are cut off, and `rest` is left over

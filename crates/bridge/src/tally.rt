@@ -10,7 +10,8 @@ pub struct Tally {
 }
 
 impl Tally {
-    // One line more; a count stays at the largest number once it is there.
+    // One line more; a count stays at the largest number once it is there. It takes the flag alone: an answer in its place would
+    // ask more of whoever counts.
     pub fn count(self, carried: bool) -> Tally
         ensures carried { result.carried ≡ min (self.carried + (if carried then 1 else 0)) (2 ^ 64 - 1) }
         ensures refused { result.refused ≡ min (self.refused + (if carried then 0 else 1)) (2 ^ 64 - 1) }

@@ -16,7 +16,7 @@ pub enum Layer {
 }
 
 // Plain numbers: the fields are public, and a layer that is yet to be written refuses with numbers of its own. The faults of
-// the calls are enums.
+// the calls are types of their own.
 #[derive(Clone, Copy, PartialEq, Eq, Debug)]
 pub struct Refusal {
     pub number: u8,

@@ -17,7 +17,7 @@ pub struct Answer {
 }
 
 impl Answer {
-    // Whether the frame was carried, as it counts.
+    // Whether the frame was carried, which is what the tally counts.
     pub fn carried(&self) -> bool
         ensures { result ≡ is_ok self.now.frame }
     {
